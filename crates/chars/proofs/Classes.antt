@@ -1,0 +1,109 @@
+-- The table of byte classes agrees with the grammars' byte classes: one test, computed at each of the 256 entries.
+-- Assumes nothing.
+use mathlib.Core.Bool.{Bool, true, false, _||_, false≢true}
+use mathlib.Core.Path.{_≡_, refl}
+use mathlib.Core.List.{List, [], _∷_}
+use Prim.Native.Nat.{ℕ, _≤_, _<_}
+use lib.Dec.{T, leb, eqb}
+use borrow.Author.Tests.{leb-true}
+use lib.ListN.{getD}
+use Rattle.chars.specs.Bytes.{digit, letter, hexDigit, unreserved, segmentByte, continuation, lead2, lead3, lead4, member, within, hexValue}
+use Rattle.chars.specs.Characters.{single}
+use Rattle.chars.specs.Classes.{Classed}
+use Rattle.chars.specs.declared.search.Alphabet.the-variants.{Token, Scheme, Id, SchemeEnd, AuthorityEnd, PathEnd}
+use Rattle.chars.specs.declared.units.Grammar.the-variants.{Iri}
+use Rattle.chars.proofs.Tables.{both, same, is-same, both-left, both-right, at}
+
+unfoldable pub table : List ℕ
+table =
+    15 ∷ 15 ∷ 15 ∷ 15 ∷ 15 ∷ 15 ∷ 15 ∷ 15 ∷ 15 ∷ 15 ∷ 15 ∷ 15 ∷ 15 ∷ 15 ∷ 15 ∷ 15 ∷
+    15 ∷ 15 ∷ 15 ∷ 15 ∷ 15 ∷ 15 ∷ 15 ∷ 15 ∷ 15 ∷ 15 ∷ 15 ∷ 15 ∷ 15 ∷ 15 ∷ 15 ∷ 15 ∷
+    15 ∷ 7 ∷ 15 ∷ 12 ∷ 7 ∷ 13 ∷ 7 ∷ 7 ∷ 8 ∷ 8 ∷ 7 ∷ 6 ∷ 8 ∷ 3 ∷ 3 ∷ 10 ∷
+    0 ∷ 0 ∷ 0 ∷ 0 ∷ 0 ∷ 0 ∷ 0 ∷ 0 ∷ 0 ∷ 0 ∷ 9 ∷ 8 ∷ 15 ∷ 8 ∷ 15 ∷ 11 ∷
+    8 ∷ 1 ∷ 1 ∷ 1 ∷ 1 ∷ 1 ∷ 1 ∷ 2 ∷ 2 ∷ 2 ∷ 2 ∷ 2 ∷ 2 ∷ 2 ∷ 2 ∷ 2 ∷
+    2 ∷ 2 ∷ 2 ∷ 2 ∷ 2 ∷ 2 ∷ 2 ∷ 2 ∷ 2 ∷ 2 ∷ 2 ∷ 15 ∷ 15 ∷ 15 ∷ 14 ∷ 4 ∷
+    14 ∷ 1 ∷ 1 ∷ 1 ∷ 1 ∷ 1 ∷ 1 ∷ 2 ∷ 2 ∷ 2 ∷ 2 ∷ 2 ∷ 2 ∷ 2 ∷ 2 ∷ 2 ∷
+    2 ∷ 2 ∷ 2 ∷ 2 ∷ 2 ∷ 2 ∷ 2 ∷ 2 ∷ 2 ∷ 2 ∷ 2 ∷ 15 ∷ 14 ∷ 15 ∷ 5 ∷ 15 ∷
+    16 ∷ 16 ∷ 16 ∷ 16 ∷ 16 ∷ 16 ∷ 16 ∷ 16 ∷ 16 ∷ 16 ∷ 16 ∷ 16 ∷ 16 ∷ 16 ∷ 16 ∷ 16 ∷
+    16 ∷ 16 ∷ 16 ∷ 16 ∷ 16 ∷ 16 ∷ 16 ∷ 16 ∷ 16 ∷ 16 ∷ 16 ∷ 16 ∷ 16 ∷ 16 ∷ 16 ∷ 16 ∷
+    16 ∷ 16 ∷ 16 ∷ 16 ∷ 16 ∷ 16 ∷ 16 ∷ 16 ∷ 16 ∷ 16 ∷ 16 ∷ 16 ∷ 16 ∷ 16 ∷ 16 ∷ 16 ∷
+    16 ∷ 16 ∷ 16 ∷ 16 ∷ 16 ∷ 16 ∷ 16 ∷ 16 ∷ 16 ∷ 16 ∷ 16 ∷ 16 ∷ 16 ∷ 16 ∷ 16 ∷ 16 ∷
+    17 ∷ 17 ∷ 17 ∷ 17 ∷ 17 ∷ 17 ∷ 17 ∷ 17 ∷ 17 ∷ 17 ∷ 17 ∷ 17 ∷ 17 ∷ 17 ∷ 17 ∷ 17 ∷
+    17 ∷ 17 ∷ 17 ∷ 17 ∷ 17 ∷ 17 ∷ 17 ∷ 17 ∷ 17 ∷ 17 ∷ 17 ∷ 17 ∷ 17 ∷ 17 ∷ 17 ∷ 17 ∷
+    18 ∷ 18 ∷ 18 ∷ 18 ∷ 18 ∷ 18 ∷ 18 ∷ 18 ∷ 18 ∷ 18 ∷ 18 ∷ 18 ∷ 18 ∷ 18 ∷ 18 ∷ 18 ∷
+    19 ∷ 19 ∷ 19 ∷ 19 ∷ 19 ∷ 19 ∷ 19 ∷ 19 ∷ 20 ∷ 20 ∷ 20 ∷ 20 ∷ 20 ∷ 20 ∷ 20 ∷ 20 ∷
+    []
+
+-- the rules of `Classed`, as one test
+agree : ℕ → ℕ → Bool
+agree b k =
+    both (same (eqb k 0) (digit b))
+    (both (same (leb k 1) (hexDigit b))
+    (both (same (within 1 2 k) (letter b))
+    (both (same (leb k 5) (unreserved b))
+    (both (same (leb k 9) (segmentByte b))
+    (both (same (leb k 12) (single Iri b))
+    (both (same (leb k 7 || within 12 14 k) (member Token b))
+    (both (same (leb k 3 || eqb k 6) (member Scheme b))
+    (both (same (leb k 4) (member Id b))
+    (both (same (within 9 12 k) (member SchemeEnd b))
+    (both (same (within 10 12 k) (member AuthorityEnd b))
+    (both (same (within 11 12 k) (member PathEnd b))
+    (both (same (eqb k 16) (continuation b))
+    (both (same (eqb k 17) (lead2 b))
+    (both (same (eqb k 18) (lead3 b))
+    (same (eqb k 19) (lead4 b))))))))))))))))
+
+rules : (b k : ℕ) → T (agree b k) → Classed b k
+unfolding agree
+rules b k t0 =
+    let t1 = both-right _ _ t0 in
+    let t2 = both-right _ _ t1 in
+    let t3 = both-right _ _ t2 in
+    let t4 = both-right _ _ t3 in
+    let t5 = both-right _ _ t4 in
+    let t6 = both-right _ _ t5 in
+    let t7 = both-right _ _ t6 in
+    let t8 = both-right _ _ t7 in
+    let t9 = both-right _ _ t8 in
+    let t10 = both-right _ _ t9 in
+    let t11 = both-right _ _ t10 in
+    let t12 = both-right _ _ t11 in
+    let t13 = both-right _ _ t12 in
+    let t14 = both-right _ _ t13 in
+    record {
+      isDigit = is-same _ _ (both-left _ _ t0);
+      isHexDigit = is-same _ _ (both-left _ _ t1);
+      isLetter = is-same _ _ (both-left _ _ t2);
+      isUnreserved = is-same _ _ (both-left _ _ t3);
+      isSegmentByte = is-same _ _ (both-left _ _ t4);
+      isIriByte = is-same _ _ (both-left _ _ t5);
+      isToken = is-same _ _ (both-left _ _ t6);
+      isScheme = is-same _ _ (both-left _ _ t7);
+      isId = is-same _ _ (both-left _ _ t8);
+      isSchemeEnd = is-same _ _ (both-left _ _ t9);
+      isAuthorityEnd = is-same _ _ (both-left _ _ t10);
+      isPathEnd = is-same _ _ (both-left _ _ t11);
+      isContinuation = is-same _ _ (both-left _ _ t12);
+      isLead2 = is-same _ _ (both-left _ _ t13);
+      isLead3 = is-same _ _ (both-left _ _ t14);
+      isLead4 = is-same _ _ (both-right _ _ t14);
+    }
+
+pub classed : (b : ℕ) → b < 256 → Classed b (getD table b 0)
+unfolding agree both same table member segmentByte unreserved hexDigit digit letter continuation
+classed b h = rules b (getD table b 0) (at agree table tt b h)
+
+small : ℕ → ℕ → Bool
+small b k = same (hexDigit b) (both (hexDigit b) (leb (hexValue b) 15))
+
+second : (a b : Bool) → T (same a (both a b)) → a ≡ true → b ≡ true
+unfolding same both
+second true true t e = refl
+second true false t e = absurd t
+second false b t e = absurd (false≢true e)
+
+-- a hexadecimal digit is worth 15 at most
+pub hex-small : (b : ℕ) → b < 256 → hexDigit b ≡ true → hexValue b ≤ 15
+unfolding small both same table hexDigit digit
+hex-small b h e = leb-true _ _ (second (hexDigit b) (leb (hexValue b) 15) (at small table tt b h) e)

@@ -1,0 +1,54 @@
+-- Two texts compared side by side, at the position i.
+-- Assumes nothing.
+use mathlib.Core.Path.{_≡_, refl, sym, ap, _∙_}
+use mathlib.Core.Bool.{Bool, true, false, _&&_, cond}
+use mathlib.Core.List.{List, [], _∷_}
+use Prim.Native.Nat.{ℕ, zero, suc, _+_, _≤_, _<_}
+use native.Mathlib.Numerals.{add-one}
+use native.Mathlib.Omega.{arith}
+use lib.Dec.{eqb, ltb}
+use lib.ListN.{length, drop, getD, drop-of-length-le}
+use lib.Seq.{drop-cons}
+use borrow.Author.Tests.{eq-eqb, ne-eqb}
+use Rattle.chars.specs.Lists.{same}
+use Rattle.chars.specs.Folding.{lower, equivalent, order, foldedOrder}
+use Rattle.chars.specs.declared.folding.Order.the-variants.{Less, Equal, Greater}
+
+pub lengths-differ : (a b : List ℕ) → (length a ≡ length b → ⊥) → equivalent a b ≡ false
+unfolding equivalent same
+lengths-differ [] [] h = absurd (h refl)
+lengths-differ [] (y ∷ b) h = refl
+lengths-differ (x ∷ a) [] h = refl
+lengths-differ (x ∷ a) (y ∷ b) h = go (eqb (lower x) (lower y)) (lengths-differ a b (λ e. h (ap suc e)))
+  where
+    go : (q : Bool) → equivalent a b ≡ false → (q && equivalent a b) ≡ false
+    go true e = e
+    go false e = refl
+
+module _ (a b : List ℕ) (i : ℕ) where
+  -- x and y are the bytes at i, folded
+  pub equivalent-at : (x y : ℕ) → i < length a → i < length b → x ≡ lower (getD a i 0) → y ≡ lower (getD b i 0)
+      → equivalent (drop i a) (drop i b) ≡ eqb x y && equivalent (drop (i + 1) a) (drop (i + 1) b)
+  unfolding equivalent same
+  equivalent-at x y h g p q = rw (add-one, drop-cons a i 0 h, drop-cons b i 0 g, p, q)
+
+  pub equivalent-end : length a ≤ i → length b ≤ i → equivalent (drop i a) (drop i b) ≡ true
+  unfolding equivalent same
+  equivalent-end h g = rw (drop-of-length-le a h, drop-of-length-le b g)
+
+  pub order-at : (x y : ℕ) → i < length a → i < length b → x ≡ lower (getD a i 0) → y ≡ lower (getD b i 0)
+      → foldedOrder (drop i a) (drop i b) ≡ cond (ltb x y) Less (cond (ltb y x) Greater (foldedOrder (drop (i + 1) a) (drop (i + 1) b)))
+  unfolding foldedOrder order
+  order-at x y h g p q = rw (add-one, drop-cons a i 0 h, drop-cons b i 0 g, p, q)
+
+  pub order-same : length a ≤ i → length b ≤ i → foldedOrder (drop i a) (drop i b) ≡ Equal
+  unfolding foldedOrder order
+  order-same h g = rw (drop-of-length-le a h, drop-of-length-le b g)
+
+  pub order-shorter : length a ≤ i → i < length b → foldedOrder (drop i a) (drop i b) ≡ Less
+  unfolding foldedOrder order
+  order-shorter h g = rw (drop-of-length-le a h, drop-cons b i 0 g)
+
+  pub order-longer : i < length a → length b ≤ i → foldedOrder (drop i a) (drop i b) ≡ Greater
+  unfolding foldedOrder order
+  order-longer h g = rw (drop-cons a i 0 h, drop-of-length-le b g)

@@ -1,0 +1,11 @@
+pub mod Bools
+pub mod Tables
+pub mod Classes
+pub mod Searches
+pub mod Splits
+pub mod Tiles
+pub mod UnitLengths
+pub mod Comparisons
+pub mod Orders
+pub mod Equivalence
+pub mod Derivability

@@ -1,0 +1,123 @@
+-- What a loop over a text cites: the text from the position i on, and the text up to i.
+-- Assumes nothing.
+use mathlib.Core.Path.{_≡_, refl, sym, ap, _∙_}
+use mathlib.Core.Bool.{Bool, true, false, _&&_, cond}
+use mathlib.Core.List.{List, [], _∷_, _++_}
+use Prim.Native.Nat.{ℕ, zero, suc, _+_, _-_, _≤_, _<_}
+use native.Mathlib.Nat.{zero-add}
+use native.Mathlib.Numerals.{add-one}
+use native.Mathlib.Omega.{arith}
+use lib.Dec.{eqb}
+use lib.ListN.{length, take, drop, getD, drop-of-length-le, length-drop}
+use lib.Seq.{drop-cons, drop-length, take-suc, take-all, length-take-le}
+use borrow.Author.Tests.{eq-eqb, ne-eqb}
+use Rattle.chars.specs.Lists.{every, firstOf, indexOf, lacks, afterFirst, afterLast}
+
+-- the part s[i..] of a slice
+pub take-rest : (s : List ℕ) (i : ℕ) → take (length s - i) (drop i s) ≡ drop i s
+take-rest s i = take-all (length s - i) (drop i s) (simp length-drop (omega arith))
+
+pub drop-next : (s : List ℕ) (i : ℕ) → i < length s → drop i s ≡ getD s i 0 ∷ drop (i + 1) s
+drop-next s i h = rw (add-one) (drop-cons s i 0 h)
+
+-- every byte passes: at i, and at the end
+module _ (p : ℕ → Bool) (s : List ℕ) (i : ℕ) where
+  pub every-at : (t : Bool) → i < length s → t ≡ p (getD s i 0) → every p (drop i s) ≡ t && every p (drop (i + 1) s)
+  unfolding every
+  every-at t h e = rw (drop-next s i h, e)
+
+  pub every-end : length s ≤ i → every p (drop i s) ≡ true
+  unfolding every
+  every-end h = rw (drop-of-length-le s h)
+
+-- the first byte that passes
+module _ (p : ℕ → Bool) (s : List ℕ) (i : ℕ) where
+  first-at : (t : Bool) → i < length s → t ≡ p (getD s i 0) → firstOf p (drop i s) ≡ cond t 0 (suc (firstOf p (drop (i + 1) s)))
+  unfolding firstOf
+  first-at t h e = rw (drop-next s i h, e)
+
+  pub first-hit : (t : Bool) → i < length s → t ≡ p (getD s i 0) → t ≡ true → i + firstOf p (drop i s) ≡ i
+  first-hit t h e q = rw (first-at t h e, q) (omega arith)
+
+  pub first-miss : (t : Bool) → i < length s → t ≡ p (getD s i 0) → t ≡ false → i + firstOf p (drop i s) ≡ i + 1 + firstOf p (drop (i + 1) s)
+  first-miss t h e q = rw (first-at t h e, q) (omega arith)
+
+  pub first-end : length s ≤ i → i + firstOf p (drop i s) ≡ i
+  unfolding firstOf
+  first-end h = rw (drop-of-length-le s h) (omega arith)
+
+pub first-le : (p : ℕ → Bool) (s : List ℕ) → firstOf p s ≤ length s
+unfolding firstOf
+first-le p [] = omega arith
+first-le p (x ∷ s) = go (p x) (first-le p s)
+  where
+    go : (q : Bool) → firstOf p s ≤ length s → cond q 0 (suc (firstOf p s)) ≤ suc (length s)
+    go true h = omega arith
+    go false h = omega arith
+
+-- the first byte b
+module _ (b : ℕ) where
+  pub index-le : (s : List ℕ) → indexOf b s ≤ length s
+  index-le s = first-le (λ (x : ℕ). eqb x b) s
+
+  pub index-hit : (s : List ℕ) (i : ℕ) → i < length s → getD s i 0 ≡ b → i + indexOf b (drop i s) ≡ i
+  index-hit s i h e = first-hit (λ (x : ℕ). eqb x b) s i (eqb (getD s i 0) b) h refl (eq-eqb _ _ e)
+
+  pub index-miss : (s : List ℕ) (i : ℕ) → i < length s → (getD s i 0 ≡ b → ⊥) → i + indexOf b (drop i s) ≡ i + 1 + indexOf b (drop (i + 1) s)
+  index-miss s i h e = first-miss (λ (x : ℕ). eqb x b) s i (eqb (getD s i 0) b) h refl (ne-eqb _ _ e)
+
+  pub index-end : (s : List ℕ) (i : ℕ) → length s ≤ i → i + indexOf b (drop i s) ≡ i
+  index-end s i h = first-end (λ (x : ℕ). eqb x b) s i h
+
+-- the same, where a search from the start found i
+module _ (b : ℕ) (s : List ℕ) (i : ℕ) (here : i ≡ 0 + indexOf b s) where
+  pub index-found : indexOf b s ≡ i
+  index-found = sym (here ∙ zero-add (indexOf b s))
+
+  pub lacks-found : eqb i (length s) ≡ lacks b s
+  unfolding lacks
+  lacks-found = rw index-found
+
+  pub drop-after : take (length s - (i + 1)) (drop (i + 1) s) ≡ drop (indexOf b s + 1) s
+  drop-after = rw index-found (take-rest s (i + 1))
+
+  pub drop-after-none : length s ≤ i → take (length s - length s) (drop (length s) s) ≡ drop (indexOf b s + 1) s
+  drop-after-none h =
+      let g : length s ≤ i + 1 = omega arith in
+      take-rest s (length s) ∙ drop-length s ∙ sym (rw (index-found) (drop-of-length-le s g))
+
+-- the last byte b
+last-snoc : (b x : ℕ) (s : List ℕ) → afterLast b (s ++ x ∷ []) ≡ cond (eqb x b) (suc (length s)) (afterLast b s)
+unfolding afterLast
+last-snoc b x [] = refl
+last-snoc b x (y ∷ s) = rw (last-snoc b x s) (go (eqb x b))
+  where
+    go : (q : Bool) → afterFirst (eqb y b) (cond q (suc (length s)) (afterLast b s)) ≡ cond q (suc (suc (length s))) (afterFirst (eqb y b) (afterLast b s))
+    go true = refl
+    go false = refl
+
+last-at : (b : ℕ) (s : List ℕ) (j : ℕ) → j < length s → afterLast b (take (suc j) s) ≡ cond (eqb (getD s j 0) b) (suc j) (afterLast b (take j s))
+last-at b s j h = rw (take-suc s j 0 h, last-snoc, length-take-le j s (omega arith))
+
+-- for a loop that counts i down
+module _ (b : ℕ) (s : List ℕ) (i : ℕ) (z : 0 < i) (h : i ≤ length s) where
+  last-before : afterLast b (take i s) ≡ cond (eqb (getD s (i - 1) 0) b) i (afterLast b (take (i - 1) s))
+  last-before =
+      let up : suc (i - 1) ≡ i = omega arith in
+      rw up at (last-at b s (i - 1) (omega arith))
+
+  pub last-hit : getD s (i - 1) 0 ≡ b → afterLast b (take i s) ≡ i
+  last-hit e = last-before ∙ rw (eq-eqb (getD s (i - 1) 0) b e)
+
+  pub last-miss : (getD s (i - 1) 0 ≡ b → ⊥) → afterLast b (take i s) ≡ afterLast b (take (i - 1) s)
+  last-miss e = last-before ∙ rw (ne-eqb (getD s (i - 1) 0) b e)
+
+pub last-le : (b : ℕ) (s : List ℕ) → afterLast b s ≤ length s
+unfolding afterLast
+last-le b [] = omega arith
+last-le b (x ∷ s) = go (afterLast b s) (eqb x b) (last-le b s)
+  where
+    go : (n : ℕ) (q : Bool) → n ≤ length s → afterFirst q n ≤ suc (length s)
+    go zero true h = omega arith
+    go zero false h = omega arith
+    go (suc n) q h = omega arith

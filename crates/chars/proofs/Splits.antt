@@ -1,0 +1,61 @@
+-- The stretches of a text between its bytes b, walked from the position i on.
+-- Assumes nothing.
+use mathlib.Core.Path.{_≡_, refl, sym, ap, _∙_}
+use mathlib.Core.Bool.{Bool, true, false, _&&_, cond}
+use mathlib.Core.List.{List, [], _∷_}
+use mathlib.Core.Logic.{⊎-elim}
+use Prim.Native.Nat.{ℕ, suc, _+_, _-_, _≤_, _<_}
+use native.Mathlib.Nat.{le-of-suc-le-suc, not-suc-le-zero, eq-or-lt-of-le}
+use native.Mathlib.Omega.{arith}
+use lib.Dec.{eqb}
+use lib.ListN.{length, take, drop, length-drop}
+use lib.Seq.{drop-drop, take-all}
+use Rattle.chars.specs.Lists.{firstOf, indexOf, split, cut, all}
+use Rattle.chars.proofs.Searches.{index-le}
+
+module _ (b : ℕ) where
+  pub split-last : (s : List ℕ) → indexOf b s ≡ length s → split b s ≡ s ∷ []
+  unfolding split firstOf
+  split-last [] e = refl
+  split-last (x ∷ s) e = go (eqb x b) (λ h. split-last s h) e
+    where
+      go : (q : Bool) → (indexOf b s ≡ length s → split b s ≡ s ∷ []) → cond q 0 (suc (indexOf b s)) ≡ suc (length s) → cut q x (split b s) ≡ (x ∷ s) ∷ []
+      go true ih e = absurd (omega arith)
+      go false ih e = ap (cut false x) (ih (omega arith))
+
+  pub split-more : (s : List ℕ) → indexOf b s < length s → split b s ≡ take (indexOf b s) s ∷ split b (drop (suc (indexOf b s)) s)
+  unfolding split firstOf
+  split-more [] h = absurd (not-suc-le-zero h)
+  split-more (x ∷ s) h = go (eqb x b) (λ l. split-more s l) h
+    where
+      go : (q : Bool) → (indexOf b s < length s → split b s ≡ take (indexOf b s) s ∷ split b (drop (suc (indexOf b s)) s)) → cond q 0 (suc (indexOf b s)) < suc (length s)
+          → cut q x (split b s) ≡ take (cond q 0 (suc (indexOf b s))) (x ∷ s) ∷ split b (drop (suc (cond q 0 (suc (indexOf b s)))) (x ∷ s))
+      go true ih h = refl
+      go false ih h = ap (cut false x) (ih (le-of-suc-le-suc h))
+
+  -- the stretch from i, which ends at e: the next b, or the end
+  module _ (s : List ℕ) (i e : ℕ) (here : e ≡ i + indexOf b (drop i s)) (h : i ≤ length s) where
+    far : e - i ≡ indexOf b (drop i s)
+    far = omega arith
+
+    pub stretch-le : e ≤ length s
+    stretch-le = omega (arith, index-le b (drop i s), length-drop i s)
+
+    last-is : e ≡ length s → split b (drop i s) ≡ take (e - i) (drop i s) ∷ []
+    last-is q = rw (split-last (drop i s) (sym far ∙ sym (length-drop i s ∙ ap (λ (n : ℕ). n - i) (sym q))), take-all (e - i) (drop i s) (omega (arith, length-drop i s)))
+
+    more-is : e < length s → split b (drop i s) ≡ take (e - i) (drop i s) ∷ split b (drop (e + 1) s)
+    more-is l =
+        let k : indexOf b (drop i s) < length (drop i s) = simp length-drop (omega arith) in
+        let d : i + suc (indexOf b (drop i s)) ≡ e + 1 = omega arith in
+        rw (split-more (drop i s) k, ← far, drop-drop, far, d)
+
+    module _ (p : List ℕ → Bool) where
+      pub all-last : e ≡ length s → p (take (e - i) (drop i s)) ≡ true → all p (split b (drop i s)) ≡ true
+      all-last q f = rw (last-is q, f)
+
+      pub all-more : e < length s → p (take (e - i) (drop i s)) ≡ true → all p (split b (drop i s)) ≡ all p (split b (drop (e + 1) s))
+      all-more l f = rw (more-is l, f)
+
+      pub all-not : p (take (e - i) (drop i s)) ≡ false → all p (split b (drop i s)) ≡ false
+      all-not f = ⊎-elim (λ q. rw (last-is q, f)) (λ l. rw (more-is l, f)) (eq-or-lt-of-le stretch-le)

@@ -1,0 +1,57 @@
+use mathlib.Core.Path.{_≡_, sym, ap, _∙_}
+use Prim.Native.Nat.{ℕ, _≤_}
+use native.Mathlib.Omega.{arith}
+use lib.ListN.{length, take}
+use lib.Seq.{take-length}
+use Rattle.chars.specs.Lists.{afterLast}
+use Rattle.chars.proofs.Searches.{last-hit, last-miss}
+use Rattle.chars.proofs.search.find_past.Statement.{statement}
+use Rattle.chars.proofs.search.find_past.Tie as tie
+
+abbrev Inv-loop : tie.InvT-loop
+Inv-loop s b i₀ i = (i ≤ length s) × (afterLast b s ≡ afterLast b (take i s))
+
+abbrev μ-loop : tie.MeasureT-loop
+μ-loop s b i₀ i = i
+
+loop-holds : tie.Need-loop-holds Inv-loop μ-loop
+loop-holds c = (omega arith, ap (afterLast (c .args .b)) (sym (take-length (c .args .s .now))))
+
+sub-j : tie.Need-sub-j Inv-loop μ-loop
+sub-j c = omega arith
+
+shared-slice-read-if1 : tie.Need-shared-slice-read-if1 Inv-loop μ-loop
+shared-slice-read-if1 c = omega arith
+
+returns : tie.Need-returns Inv-loop μ-loop
+returns c =
+    let l = c .before .before .before in
+    sym (l .loop .inv .1 ∙ last-hit _ _ _ (c .before .before .loop-test .taken) (l .loop .inv .0) (c .if1 .taken))
+
+loop-less : tie.Need-loop-less Inv-loop μ-loop
+loop-less c = omega arith
+
+loop-again : tie.Need-loop-again Inv-loop μ-loop
+loop-again c =
+    let l = c .before .before .before in
+    (omega arith, l .loop .inv .1 ∙ last-miss _ _ _ (c .before .before .loop-test .taken) (l .loop .inv .0) (c .if1 .left))
+
+returns-2 : tie.Need-returns-2 Inv-loop μ-loop
+unfolding afterLast
+returns-2 c =
+    let z : c .before .loop .i ≡ 0 = omega arith in
+    sym (c .before .loop .inv .1 ∙ ap (λ (n : ℕ). afterLast (c .before .before .args .b) (take n (c .before .before .args .s .now))) z)
+
+pub find-past-spec : {M : Type 1} → statement M
+find-past-spec =
+    tie.close
+    (tie.spec
+    Inv-loop
+    μ-loop
+    loop-holds
+    sub-j
+    shared-slice-read-if1
+    returns
+    loop-less
+    loop-again
+    returns-2)

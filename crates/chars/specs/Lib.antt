@@ -1,0 +1,5 @@
+pub mod Bytes
+pub mod Lists
+pub mod Characters
+pub mod Folding
+pub mod Classes

@@ -1,0 +1,85 @@
+// Folding, and what is compared by it.
+use crate::search::byte_at;
+ghost use mathlib.Core.Path.{_≡_};
+ghost use Rattle.chars.specs.Folding.{lower, equivalent, derivable, foldedOrder, endsIn};
+
+pub enum Order {
+    Less,
+    Equal,
+    Greater,
+}
+
+pub fn to_lower(b: u8) -> u8
+    ensures { λ r. ⌜ r ≡ lower b ⌝ }
+{
+    if b'A' <= b {
+        if b <= b'Z' {
+            return b + 32;
+        }
+    }
+    b
+}
+
+pub fn is_equivalent(a: &[u8], b: &[u8]) -> bool
+    ensures { λ r. ⌜ r ≡ equivalent (now (a .entry)) (now (b .entry)) ⌝ }
+{
+    if a.len() != b.len() {
+        return false;
+    }
+    let mut i = 0;
+    while i < a.len() {
+        if to_lower(a[i]) != to_lower(b[i]) {
+            return false;
+        }
+        i += 1;
+    }
+    true
+}
+
+// a from b.
+pub fn is_derivable(a: &[u8], b: &[u8]) -> bool
+    ensures { λ r. ⌜ r ≡ derivable (now (a .entry)) (now (b .entry)) ⌝ }
+{
+    let n = b.len();
+    if n + 1 < a.len() {
+        if byte_at(a, n) == b'/' {
+            return is_equivalent(&a[..n], b);
+        }
+    }
+    false
+}
+
+pub fn compare_folded(a: &[u8], b: &[u8]) -> Order
+    ensures { λ r. ⌜ r ≡ foldedOrder (now (a .entry)) (now (b .entry)) ⌝ }
+{
+    let mut i = 0;
+    while i < a.len() {
+        if b.len() <= i {
+            return Order::Greater;
+        }
+        let x = to_lower(a[i]);
+        let y = to_lower(b[i]);
+        if x < y {
+            return Order::Less;
+        }
+        if y < x {
+            return Order::Greater;
+        }
+        i += 1;
+    }
+    if i < b.len() {
+        return Order::Less;
+    }
+    Order::Equal
+}
+
+pub fn ends_in(s: &[u8], e: &[u8]) -> bool
+    ensures { λ r. ⌜ r ≡ endsIn (now (e .entry)) (now (s .entry)) ⌝ }
+{
+    let n = e.len();
+    if n <= s.len() {
+        let from = s.len() - n;
+        return is_equivalent(&s[from..], e);
+    }
+    false
+}

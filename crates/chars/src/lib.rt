@@ -1,0 +1,5 @@
+// Bytes and characters: one class table, UTF-8 units, folding, searching.
+pub mod folding;
+pub mod search;
+pub mod table;
+pub mod units;
