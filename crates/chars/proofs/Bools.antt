@@ -21,3 +21,7 @@ and-false false = refl
 pub and-right-true : (b : Bool) → (b && true) ≡ b
 and-right-true true = refl
 and-right-true false = refl
+
+pub and-assoc : (a b c : Bool) → (a && b && c) ≡ (a && (b && c))
+and-assoc true b c = refl
+and-assoc false b c = refl

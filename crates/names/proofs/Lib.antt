@@ -1,0 +1,5 @@
+pub mod Media
+pub mod Digits
+pub mod Suffixes
+pub mod Reserved
+pub mod IriParts

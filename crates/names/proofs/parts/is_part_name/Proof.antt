@@ -1,0 +1,28 @@
+use borrow.Author.Tests.{le-leb, lt-leb}
+use Rattle.chars.proofs.Bools.{and-false}
+use Rattle.names.specs.Names.{partName}
+use borrow.Author.Needs.{needs}
+use Rattle.names.proofs.parts.is_part_name.Statement.{statement}
+use Rattle.names.proofs.parts.is_part_name.Tie as tie
+
+returns : tie.Need-returns
+unfolding partName
+returns c = rw (lt-leb _ _ (c .if1 .taken))
+
+returns-2 : tie.Need-returns-2
+unfolding partName
+returns-2 c = rw (lt-leb _ _ (c .if2 .taken), and-false)
+
+byte-at-requires : tie.Need-byte-at-requires
+byte-at-requires c κs = search needs
+
+all-segments-requires : tie.Need-all-segments-requires
+all-segments-requires c κs = search needs
+
+returns-3 : tie.Need-returns-3
+unfolding partName
+returns-3 c = rw (c .all-segments .ensures, c .before .byte-at .ensures, le-leb _ _ (c .before .before .before .if1 .left), le-leb _ _ (c .before .before .if2 .left))
+
+pub is-part-name-spec : {M : Type 1} → statement M
+is-part-name-spec =
+    tie.close (tie.spec returns returns-2 byte-at-requires all-segments-requires returns-3)

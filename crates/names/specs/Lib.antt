@@ -1,0 +1,6 @@
+pub mod Names
+pub mod Items
+pub mod Types
+pub mod Iris
+pub mod Numbers
+pub mod Examples

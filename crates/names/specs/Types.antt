@@ -1,0 +1,28 @@
+-- Media types, extensions, relationship ids.
+-- Assumes nothing.
+use Prim.Native.Nat.{ℕ, _+_}
+use mathlib.Core.Bool.{Bool, not, _&&_, _||_}
+use mathlib.Core.List.{List}
+use lib.Dec.{eqb}
+use lib.ListN.{length, getD, take, drop}
+use Rattle.chars.specs.Bytes.{slash, dot, underscore, within, letter, member}
+use Rattle.chars.specs.Lists.{none, every, indexOf, lacks, tiled}
+use Rattle.chars.specs.Characters.{unit}
+use Rattle.chars.specs.declared.search.Alphabet.the-variants.{Token, Id}
+use Rattle.chars.specs.declared.units.Grammar.the-variants.{Segment}
+
+-- "tokens as in RFC 7231"
+unfoldable pub token : List ℕ → Bool
+token s = not (none s) && every (member Token) s
+
+-- "A media type is token/token, 3 to 127 bytes" (a token holds no slash, so the first slash parts the two)
+unfoldable pub mediaType : List ℕ → Bool
+mediaType s = within 3 127 (length s) && token (take (indexOf slash s) s) && token (drop (indexOf slash s + 1) s)
+
+-- "An extension is 1 to 31 bytes of segment characters under the triplet rule, without a dot."
+unfoldable pub extension : List ℕ → Bool
+extension s = within 1 31 (length s) && lacks dot s && tiled (unit Segment) 0 s
+
+-- "an id (1 to 63 bytes: letter or `_`, then letters, digits, `._-`, compared exactly)"
+unfoldable pub identifier : List ℕ → Bool
+identifier s = within 1 63 (length s) && (letter (getD s 0 0) || eqb (getD s 0 0) underscore) && every (member Id) s

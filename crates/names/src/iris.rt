@@ -1,0 +1,61 @@
+// IRIs.
+use chars::search::Alphabet;
+use chars::search::all_members;
+use chars::search::byte_at;
+use chars::search::find;
+use chars::search::first_member;
+use chars::search::has_no;
+use chars::search::is_letter;
+use chars::units::Grammar;
+use chars::units::all_units;
+ghost use mathlib.Core.Path.{_≡_};
+ghost use Prim.Native.Nat.{_+_};
+ghost use lib.ListN.{drop};
+ghost use Rattle.chars.specs.Lists.{indexOf};
+ghost use Rattle.names.specs.Iris.{scheme, colonFirst, iri, packageIri};
+
+fn is_scheme(s: &[u8]) -> bool
+    ensures { λ r. ⌜ r ≡ scheme (now (s .entry)) ⌝ }
+{
+    is_letter(byte_at(s, 0)) & all_members(Alphabet::Scheme, s)
+}
+
+// What follows the first b.
+fn after(s: &[u8], b: u8) -> &[u8]
+    ensures { λ r. ⌜ now r ≡ drop (indexOf b (now (s .entry)) + 1) (now (s .entry)) ⌝ }
+{
+    let n = s.len();
+    let i = find(s, 0, b);
+    if i < n {
+        let j = i + 1;
+        return &s[j..];
+    }
+    &s[n..]
+}
+
+// A colon stands before every / ? #.
+pub fn has_colon_first(s: &[u8]) -> bool
+    ensures { λ r. ⌜ r ≡ colonFirst (now (s .entry)) ⌝ }
+{
+    byte_at(s, first_member(Alphabet::SchemeEnd, s)) == b':'
+}
+
+pub fn is_iri(s: &[u8]) -> bool
+    ensures { λ r. ⌜ r ≡ iri (now (s .entry)) ⌝ }
+{
+    let n = s.len();
+    if 255 < n {
+        return false;
+    }
+    let k = first_member(Alphabet::SchemeEnd, s);
+    (1 <= n)
+        & all_units(Grammar::Iri, s)
+        & has_no(after(s, b'#'), b'#')
+        & ((byte_at(s, k) != b':') | is_scheme(&s[..k]))
+}
+
+pub fn is_package_iri(s: &[u8]) -> bool
+    ensures { λ r. ⌜ r ≡ packageIri (now (s .entry)) ⌝ }
+{
+    is_iri(s) & has_colon_first(s)
+}

@@ -1,0 +1,113 @@
+// Item names: a whole item, or a piece.
+use crate::parts::is_part_name;
+use chars::folding::is_equivalent;
+use chars::search::byte_at;
+use chars::search::find;
+use chars::search::find_past;
+use chars::search::is_digit;
+ghost use mathlib.Core.Path.{_≡_};
+ghost use Rattle.chars.specs.Bytes.{ascii};
+ghost use Rattle.chars.specs.Folding.{equivalent};
+ghost use Rattle.names.specs.Numbers.{numeral, readNumber};
+ghost use Rattle.names.specs.Items.{suffix, itemName, itemRefusal};
+
+// A whole item has no suffix; a piece has its number, and whether it is marked as the last.
+pub enum Suffix {
+    Whole,
+    Piece(usize, bool),
+}
+
+// An item name taken apart, into the length of its prefix and its suffix; or the number of its refusal.
+pub enum ItemName {
+    Named(usize, Suffix),
+    Refused(u8),
+}
+
+fn read_number(s: &[u8]) -> usize
+    ensures { λ r. ⌜ r ≡ readNumber 0 (now (s .entry)) ⌝ }
+{
+    let mut v: usize = 0;
+    let mut i = 0;
+    while i < s.len() {
+        let b = s[i];
+        if is_digit(b) {
+            if 999 < v {
+                return 10000;
+            }
+            v = v * 10 + (b - b'0') as usize;
+            i += 1;
+        } else {
+            return 10000;
+        }
+    }
+    v
+}
+
+fn is_numeral(s: &[u8]) -> bool
+    ensures { λ r. ⌜ r ≡ numeral (now (s .entry)) ⌝ }
+{
+    let n = s.len();
+    (n != 0) & ((n == 1) | (byte_at(s, 0) != b'0')) & (read_number(s) <= 9999)
+}
+
+fn is_piece(s: &[u8]) -> bool
+    ensures { λ r. ⌜ r ≡ equivalent (now (s .entry)) (ascii "].piece") ⌝ }
+{
+    is_equivalent(s, b"].piece")
+}
+
+fn is_last_piece(s: &[u8]) -> bool
+    ensures { λ r. ⌜ r ≡ equivalent (now (s .entry)) (ascii "].last.piece") ⌝ }
+{
+    is_equivalent(s, b"].last.piece")
+}
+
+// What follows a name's last slash, where it begins with [. `Whole`: it makes no suffix.
+fn read_suffix(t: &[u8]) -> Suffix
+    ensures { λ r. ⌜ r ≡ suffix (now (t .entry)) ⌝ }
+{
+    let e = find(t, 0, b']');
+    if e == 0 {
+        return Suffix::Whole;
+    }
+    let one = 1;
+    let l = is_last_piece(&t[e..]);
+    if is_numeral(&t[one..e]) & (is_piece(&t[e..]) | l) {
+        return Suffix::Piece(read_number(&t[one..e]), l);
+    }
+    Suffix::Whole
+}
+
+pub fn take_apart(s: &[u8]) -> ItemName
+    ensures { λ r. ⌜ r ≡ itemName (now (s .entry)) ⌝ }
+{
+    let p = find_past(s, b'/');
+    if p == 0 {
+        return ItemName::Refused(4);
+    }
+    if byte_at(&s[p..], 0) == b'[' {
+        let x = read_suffix(&s[p..]);
+        let Suffix::Piece(k, l) = x else {
+            return ItemName::Refused(6);
+        };
+        let n = p - 1;
+        if is_part_name(&s[..n]) {
+            return ItemName::Named(n, Suffix::Piece(k, l));
+        }
+        return ItemName::Refused(4);
+    }
+    if is_part_name(s) {
+        return ItemName::Named(s.len(), Suffix::Whole);
+    }
+    ItemName::Refused(4)
+}
+
+// The number of the refusal, 0 for none.
+pub fn refusal(n: ItemName) -> u8
+    ensures { λ r. ⌜ r ≡ itemRefusal n ⌝ }
+{
+    match n {
+        ItemName::Named(_, _) => 0,
+        ItemName::Refused(k) => k,
+    }
+}

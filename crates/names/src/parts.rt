@@ -1,0 +1,100 @@
+// Part names.
+use chars::folding::ends_in;
+use chars::folding::is_equivalent;
+use chars::search::byte_at;
+use chars::search::find;
+use chars::search::find_past;
+use chars::units::Grammar;
+use chars::units::all_units;
+ghost use mathlib.Core.Path.{_≡_};
+ghost use lib.ListN.{drop};
+ghost use Rattle.chars.specs.Bytes.{ascii, slash};
+ghost use Rattle.chars.specs.Lists.{split, all};
+ghost use Rattle.chars.specs.Folding.{equivalent, endsIn};
+ghost use Rattle.names.specs.Names.{segment, partName, reserved, extensionAt};
+
+// A segment, from its first byte to the next slash.
+pub fn is_segment(s: &[u8]) -> bool
+    ensures { λ r. ⌜ r ≡ segment (now (s .entry)) ⌝ }
+{
+    let n = s.len();
+    if n == 0 {
+        return false;
+    }
+    (byte_at(s, n - 1) != b'.') & all_units(Grammar::Segment, s)
+}
+
+// The stretches between slashes, from index `from` on: each is handed to the segment judge.
+fn all_segments(s: &[u8], from: usize) -> bool
+    ensures { λ r. ⌜ r ≡ all segment (split slash (drop from (now (s .entry)))) ⌝ }
+{
+    let n = s.len();
+    if n < from {
+        return false;
+    }
+    let mut i = from;
+    loop {
+        let e = find(s, i, b'/');
+        let ok = is_segment(&s[i..e]);
+        if ok {
+            if e == n {
+                return true;
+            }
+            i = e + 1;
+        } else {
+            return false;
+        }
+    }
+}
+
+pub fn is_part_name(s: &[u8]) -> bool
+    ensures { λ r. ⌜ r ≡ partName (now (s .entry)) ⌝ }
+{
+    let n = s.len();
+    if n < 2 {
+        return false;
+    }
+    if 255 < n {
+        return false;
+    }
+    (byte_at(s, 0) == b'/') & all_segments(s, 1)
+}
+
+fn is_rels(s: &[u8]) -> bool
+    ensures { λ r. ⌜ r ≡ equivalent (now (s .entry)) (ascii "_rels") ⌝ }
+{
+    is_equivalent(s, b"_rels")
+}
+
+fn ends_in_rels(s: &[u8]) -> bool
+    ensures { λ r. ⌜ r ≡ endsIn (ascii ".rels") (now (s .entry)) ⌝ }
+{
+    ends_in(s, b".rels")
+}
+
+pub fn is_reserved(s: &[u8]) -> bool
+    ensures { λ r. ⌜ r ≡ reserved (now (s .entry)) ⌝ }
+{
+    let p = find_past(s, b'/');
+    if p == 0 {
+        return false;
+    }
+    let n = p - 1;
+    let q = find_past(&s[..n], b'/');
+    if ends_in_rels(&s[p..]) {
+        return is_rels(&s[q..n]);
+    }
+    false
+}
+
+// Where a name's extension starts, 0 if it has none.
+pub fn extension_at(s: &[u8]) -> usize
+    ensures { λ r. ⌜ r ≡ extensionAt (now (s .entry)) ⌝ }
+{
+    let i = find_past(s, b'/');
+    let d = find_past(&s[i..], b'.');
+    if d == 0 {
+        return 0;
+    }
+    i + d
+}

@@ -1,0 +1,53 @@
+// Media types, extensions, relationship ids.
+use chars::search::Alphabet;
+use chars::search::all_members;
+use chars::search::byte_at;
+use chars::search::find;
+use chars::search::has_no;
+use chars::search::is_letter;
+use chars::units::Grammar;
+use chars::units::all_units;
+ghost use mathlib.Core.Path.{_≡_};
+ghost use Rattle.names.specs.Types.{token, mediaType, extension, identifier};
+
+fn is_token(s: &[u8]) -> bool
+    ensures { λ r. ⌜ r ≡ token (now (s .entry)) ⌝ }
+{
+    (s.len() != 0) & all_members(Alphabet::Token, s)
+}
+
+pub fn is_media_type(s: &[u8]) -> bool
+    ensures { λ r. ⌜ r ≡ mediaType (now (s .entry)) ⌝ }
+{
+    let n = s.len();
+    if 127 < n {
+        return false;
+    }
+    let i = find(s, 0, b'/');
+    if i < n {
+        let j = i + 1;
+        return (3 <= n) & is_token(&s[..i]) & is_token(&s[j..]);
+    }
+    false
+}
+
+pub fn is_extension(s: &[u8]) -> bool
+    ensures { λ r. ⌜ r ≡ extension (now (s .entry)) ⌝ }
+{
+    let n = s.len();
+    if 31 < n {
+        return false;
+    }
+    (1 <= n) & has_no(s, b'.') & all_units(Grammar::Segment, s)
+}
+
+pub fn is_id(s: &[u8]) -> bool
+    ensures { λ r. ⌜ r ≡ identifier (now (s .entry)) ⌝ }
+{
+    let n = s.len();
+    if 63 < n {
+        return false;
+    }
+    let b = byte_at(s, 0);
+    (1 <= n) & (is_letter(b) | (b == b'_')) & all_members(Alphabet::Id, s)
+}
