@@ -1,0 +1,2 @@
+// The engine for C and Rust: each judgement and each call as one exported function. A slice is passed as its pointer and its length.
+pub mod judgements;
