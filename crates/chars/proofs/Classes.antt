@@ -2,37 +2,16 @@
 -- Assumes nothing.
 use mathlib.Core.Bool.{Bool, true, false, _||_, false≢true}
 use mathlib.Core.Path.{_≡_, refl}
-use mathlib.Core.List.{List, [], _∷_}
 use Prim.Native.Nat.{ℕ, _≤_, _<_}
 use lib.Dec.{T, leb, eqb}
 use borrow.Author.Tests.{leb-true}
 use lib.ListN.{getD}
 use Rattle.chars.specs.Bytes.{digit, letter, hexDigit, unreserved, segmentByte, continuation, lead2, lead3, lead4, member, within, hexValue}
 use Rattle.chars.specs.Characters.{single}
-use Rattle.chars.specs.Classes.{Classed}
+use Rattle.chars.specs.Classes.{classes, Classed}
 use Rattle.chars.specs.declared.search.Alphabet.the-variants.{Token, Scheme, Id, SchemeEnd, AuthorityEnd, PathEnd}
 use Rattle.chars.specs.declared.units.Grammar.the-variants.{Iri}
 use Rattle.chars.proofs.Tables.{both, same, is-same, both-left, both-right, at}
-
-unfoldable pub table : List ℕ
-table =
-    15 ∷ 15 ∷ 15 ∷ 15 ∷ 15 ∷ 15 ∷ 15 ∷ 15 ∷ 15 ∷ 15 ∷ 15 ∷ 15 ∷ 15 ∷ 15 ∷ 15 ∷ 15 ∷
-    15 ∷ 15 ∷ 15 ∷ 15 ∷ 15 ∷ 15 ∷ 15 ∷ 15 ∷ 15 ∷ 15 ∷ 15 ∷ 15 ∷ 15 ∷ 15 ∷ 15 ∷ 15 ∷
-    15 ∷ 7 ∷ 15 ∷ 12 ∷ 7 ∷ 13 ∷ 7 ∷ 7 ∷ 8 ∷ 8 ∷ 7 ∷ 6 ∷ 8 ∷ 3 ∷ 3 ∷ 10 ∷
-    0 ∷ 0 ∷ 0 ∷ 0 ∷ 0 ∷ 0 ∷ 0 ∷ 0 ∷ 0 ∷ 0 ∷ 9 ∷ 8 ∷ 15 ∷ 8 ∷ 15 ∷ 11 ∷
-    8 ∷ 1 ∷ 1 ∷ 1 ∷ 1 ∷ 1 ∷ 1 ∷ 2 ∷ 2 ∷ 2 ∷ 2 ∷ 2 ∷ 2 ∷ 2 ∷ 2 ∷ 2 ∷
-    2 ∷ 2 ∷ 2 ∷ 2 ∷ 2 ∷ 2 ∷ 2 ∷ 2 ∷ 2 ∷ 2 ∷ 2 ∷ 15 ∷ 15 ∷ 15 ∷ 14 ∷ 4 ∷
-    14 ∷ 1 ∷ 1 ∷ 1 ∷ 1 ∷ 1 ∷ 1 ∷ 2 ∷ 2 ∷ 2 ∷ 2 ∷ 2 ∷ 2 ∷ 2 ∷ 2 ∷ 2 ∷
-    2 ∷ 2 ∷ 2 ∷ 2 ∷ 2 ∷ 2 ∷ 2 ∷ 2 ∷ 2 ∷ 2 ∷ 2 ∷ 15 ∷ 14 ∷ 15 ∷ 5 ∷ 15 ∷
-    16 ∷ 16 ∷ 16 ∷ 16 ∷ 16 ∷ 16 ∷ 16 ∷ 16 ∷ 16 ∷ 16 ∷ 16 ∷ 16 ∷ 16 ∷ 16 ∷ 16 ∷ 16 ∷
-    16 ∷ 16 ∷ 16 ∷ 16 ∷ 16 ∷ 16 ∷ 16 ∷ 16 ∷ 16 ∷ 16 ∷ 16 ∷ 16 ∷ 16 ∷ 16 ∷ 16 ∷ 16 ∷
-    16 ∷ 16 ∷ 16 ∷ 16 ∷ 16 ∷ 16 ∷ 16 ∷ 16 ∷ 16 ∷ 16 ∷ 16 ∷ 16 ∷ 16 ∷ 16 ∷ 16 ∷ 16 ∷
-    16 ∷ 16 ∷ 16 ∷ 16 ∷ 16 ∷ 16 ∷ 16 ∷ 16 ∷ 16 ∷ 16 ∷ 16 ∷ 16 ∷ 16 ∷ 16 ∷ 16 ∷ 16 ∷
-    17 ∷ 17 ∷ 17 ∷ 17 ∷ 17 ∷ 17 ∷ 17 ∷ 17 ∷ 17 ∷ 17 ∷ 17 ∷ 17 ∷ 17 ∷ 17 ∷ 17 ∷ 17 ∷
-    17 ∷ 17 ∷ 17 ∷ 17 ∷ 17 ∷ 17 ∷ 17 ∷ 17 ∷ 17 ∷ 17 ∷ 17 ∷ 17 ∷ 17 ∷ 17 ∷ 17 ∷ 17 ∷
-    18 ∷ 18 ∷ 18 ∷ 18 ∷ 18 ∷ 18 ∷ 18 ∷ 18 ∷ 18 ∷ 18 ∷ 18 ∷ 18 ∷ 18 ∷ 18 ∷ 18 ∷ 18 ∷
-    19 ∷ 19 ∷ 19 ∷ 19 ∷ 19 ∷ 19 ∷ 19 ∷ 19 ∷ 20 ∷ 20 ∷ 20 ∷ 20 ∷ 20 ∷ 20 ∷ 20 ∷ 20 ∷
-    []
 
 -- the rules of `Classed`, as one test
 agree : ℕ → ℕ → Bool
@@ -90,9 +69,9 @@ rules b k t0 =
       isLead4 = is-same _ _ (both-right _ _ t14);
     }
 
-pub classed : (b : ℕ) → b < 256 → Classed b (getD table b 0)
-unfolding agree both same table member segmentByte unreserved hexDigit digit letter continuation
-classed b h = rules b (getD table b 0) (at agree table tt b h)
+pub classed : (b : ℕ) → b < 256 → Classed b (getD classes b 0)
+unfolding agree both same classes member segmentByte unreserved hexDigit digit letter continuation
+classed b h = rules b (getD classes b 0) (at agree classes tt b h)
 
 small : ℕ → ℕ → Bool
 small b k = same (hexDigit b) (both (hexDigit b) (leb (hexValue b) 15))
@@ -105,5 +84,5 @@ second false b t e = absurd (false≢true e)
 
 -- a hexadecimal digit is worth 15 at most
 pub hex-small : (b : ℕ) → b < 256 → hexDigit b ≡ true → hexValue b ≤ 15
-unfolding small both same table hexDigit digit
-hex-small b h e = leb-true _ _ (second (hexDigit b) (leb (hexValue b) 15) (at small table tt b h) e)
+unfolding small both same classes hexDigit digit
+hex-small b h e = leb-true _ _ (second (hexDigit b) (leb (hexValue b) 15) (at small classes tt b h) e)

@@ -26,16 +26,17 @@ lengths-differ (x ∷ a) (y ∷ b) h = go (eqb (lower x) (lower y)) (lengths-dif
     go false e = refl
 
 module _ (a b : List ℕ) (i : ℕ) where
-  -- x and y are the bytes at i, folded
-  pub equivalent-at : (x y : ℕ) → i < length a → i < length b → x ≡ lower (getD a i 0) → y ≡ lower (getD b i 0)
-      → equivalent (drop i a) (drop i b) ≡ eqb x y && equivalent (drop (i + 1) a) (drop (i + 1) b)
+  -- t tells whether the bytes at i are the same, folded
+  pub equivalent-at : (t : Bool) → i < length a → i < length b → t ≡ eqb (lower (getD a i 0)) (lower (getD b i 0))
+      → equivalent (drop i a) (drop i b) ≡ t && equivalent (drop (i + 1) a) (drop (i + 1) b)
   unfolding equivalent same
-  equivalent-at x y h g p q = rw (add-one, drop-cons a i 0 h, drop-cons b i 0 g, p, q)
+  equivalent-at t h g e = rw (add-one, drop-cons a i 0 h, drop-cons b i 0 g, e)
 
   pub equivalent-end : length a ≤ i → length b ≤ i → equivalent (drop i a) (drop i b) ≡ true
   unfolding equivalent same
   equivalent-end h g = rw (drop-of-length-le a h, drop-of-length-le b g)
 
+  -- x and y are the bytes at i, folded
   pub order-at : (x y : ℕ) → i < length a → i < length b → x ≡ lower (getD a i 0) → y ≡ lower (getD b i 0)
       → foldedOrder (drop i a) (drop i b) ≡ cond (ltb x y) Less (cond (ltb y x) Greater (foldedOrder (drop (i + 1) a) (drop (i + 1) b)))
   unfolding foldedOrder order

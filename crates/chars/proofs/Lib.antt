@@ -5,6 +5,7 @@ pub mod Searches
 pub mod Splits
 pub mod Tiles
 pub mod UnitLengths
+pub mod UnitBytes
 pub mod Comparisons
 pub mod Orders
 pub mod Equivalence

@@ -24,18 +24,18 @@ cond-le true n m l h g = h refl
 cond-le false n m l h g = g
 
 -- the last byte of each kind of unit is in a class that 0 is not in
-last2 : (a b : ℕ) → char2 a b ≡ true → continuation b ≡ true
+pub last2 : (a b : ℕ) → char2 a b ≡ true → continuation b ≡ true
 unfolding char2
 last2 a b e = and-right (lead2 a) (continuation b) (and-left (lead2 a && continuation b) (ucschar (code2 a b)) e)
 
-last3 : (a b c : ℕ) → char3 a b c ≡ true → continuation c ≡ true
+pub last3 : (a b c : ℕ) → char3 a b c ≡ true → continuation c ≡ true
 unfolding char3
 last3 a b c e =
     let v = code3 a b c in
     let t = lead3 a && continuation b in
     and-right t (continuation c) (and-left (t && continuation c) (leb 0x800 v) (and-left (t && continuation c && leb 0x800 v) (ucschar v) e))
 
-last4 : (a b c d : ℕ) → char4 a b c d ≡ true → continuation d ≡ true
+pub last4 : (a b c d : ℕ) → char4 a b c d ≡ true → continuation d ≡ true
 unfolding char4
 last4 a b c d e =
     let v = code4 a b c d in

@@ -1,6 +1,7 @@
 // Folding, and what is compared by it.
 use crate::search::byte_at;
 ghost use mathlib.Core.Path.{_≡_};
+ghost use lib.Dec.{eqb};
 ghost use Rattle.chars.specs.Folding.{lower, equivalent, derivable, foldedOrder, endsIn};
 
 pub enum Order {
@@ -20,6 +21,15 @@ pub fn to_lower(b: u8) -> u8
     b
 }
 
+fn is_same_letter(x: u8, y: u8) -> bool
+    ensures { λ r. ⌜ r ≡ eqb (lower x) (lower y) ⌝ }
+{
+    if x == y {
+        return true;
+    }
+    to_lower(x) == to_lower(y)
+}
+
 pub fn is_equivalent(a: &[u8], b: &[u8]) -> bool
     ensures { λ r. ⌜ r ≡ equivalent (now (a .entry)) (now (b .entry)) ⌝ }
 {
@@ -28,10 +38,11 @@ pub fn is_equivalent(a: &[u8], b: &[u8]) -> bool
     }
     let mut i = 0;
     while i < a.len() {
-        if to_lower(a[i]) != to_lower(b[i]) {
+        if is_same_letter(a[i], b[i]) {
+            i += 1;
+        } else {
             return false;
         }
-        i += 1;
     }
     true
 }

@@ -1,5 +1,6 @@
 // The class of each byte value.
-ghost use Rattle.chars.specs.Classes.{Classed};
+ghost use mathlib.Core.Path.{_≡_};
+ghost use Rattle.chars.specs.Classes.{classes, Classed};
 
 // 0 digit, 1 A-F a-f, 2 other letter, 3 - and ., 4 _, 5 ~, 6 +, 7 ! $ & ' *, 8 ( ) , ; = @, 9 :, 10 /, 11 ?, 12 #, 13 %, 14 ^ ` |,
 // 15 other ASCII, 16 a continuation byte of UTF-8, 17, 18, 19 the first byte of two, three, four, 20 none of these.
@@ -22,8 +23,16 @@ const CLASS: [u8; 256] = [
     19, 19, 19, 19, 19, 19, 19, 19, 20, 20, 20, 20, 20, 20, 20, 20,
 ];
 
-pub fn class(b: u8) -> u8
+// The table, for a caller to lend to all its lookups: a constant is laid out anew wherever it is named.
+pub fn table() -> [u8; 256]
+    ensures { λ r. ⌜ r ≡ classes ⌝ }
+{
+    CLASS
+}
+
+pub fn class(t: &[u8; 256], b: u8) -> u8
+    requires { ⌜ now t ≡ classes ⌝ }
     ensures { λ r. ⌜ Classed b r ⌝ }
 {
-    CLASS[b as usize]
+    t[b as usize]
 }

@@ -6,18 +6,21 @@ use chars::search::find;
 use chars::search::first_member;
 use chars::search::has_no;
 use chars::search::is_letter;
+use chars::table::table;
 use chars::units::Grammar;
 use chars::units::all_units;
 ghost use mathlib.Core.Path.{_≡_};
 ghost use Prim.Native.Nat.{_+_};
 ghost use lib.ListN.{drop};
+ghost use Rattle.chars.specs.Classes.{classes};
 ghost use Rattle.chars.specs.Lists.{indexOf};
 ghost use Rattle.names.specs.Iris.{scheme, colonFirst, iri, packageIri};
 
-fn is_scheme(s: &[u8]) -> bool
+fn is_scheme(t: &[u8; 256], s: &[u8]) -> bool
+    requires { ⌜ now t ≡ classes ⌝ }
     ensures { λ r. ⌜ r ≡ scheme (now (s .entry)) ⌝ }
 {
-    is_letter(byte_at(s, 0)) & all_members(Alphabet::Scheme, s)
+    is_letter(byte_at(s, 0)) & all_members(t, Alphabet::Scheme, s)
 }
 
 // What follows the first b.
@@ -47,11 +50,12 @@ pub fn is_iri(s: &[u8]) -> bool
     if 255 < n {
         return false;
     }
+    let t = table();
     let k = first_member(Alphabet::SchemeEnd, s);
     (1 <= n)
-        & all_units(Grammar::Iri, s)
+        & all_units(&t, Grammar::Iri, s)
         & has_no(after(s, b'#'), b'#')
-        & ((byte_at(s, k) != b':') | is_scheme(&s[..k]))
+        & ((byte_at(s, k) != b':') | is_scheme(&t, &s[..k]))
 }
 
 pub fn is_package_iri(s: &[u8]) -> bool

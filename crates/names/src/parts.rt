@@ -4,28 +4,32 @@ use chars::folding::is_equivalent;
 use chars::search::byte_at;
 use chars::search::find;
 use chars::search::find_past;
+use chars::table::table;
 use chars::units::Grammar;
 use chars::units::all_units;
 ghost use mathlib.Core.Path.{_≡_};
 ghost use lib.ListN.{drop};
 ghost use Rattle.chars.specs.Bytes.{ascii, slash};
+ghost use Rattle.chars.specs.Classes.{classes};
 ghost use Rattle.chars.specs.Lists.{split, all};
 ghost use Rattle.chars.specs.Folding.{equivalent, endsIn};
 ghost use Rattle.names.specs.Names.{segment, partName, reserved, extensionAt};
 
 // A segment, from its first byte to the next slash.
-pub fn is_segment(s: &[u8]) -> bool
+fn is_segment(t: &[u8; 256], s: &[u8]) -> bool
+    requires { ⌜ now t ≡ classes ⌝ }
     ensures { λ r. ⌜ r ≡ segment (now (s .entry)) ⌝ }
 {
     let n = s.len();
     if n == 0 {
         return false;
     }
-    (byte_at(s, n - 1) != b'.') & all_units(Grammar::Segment, s)
+    (byte_at(s, n - 1) != b'.') & all_units(t, Grammar::Segment, s)
 }
 
 // The stretches between slashes, from index `from` on: each is handed to the segment judge.
-fn all_segments(s: &[u8], from: usize) -> bool
+fn all_segments(t: &[u8; 256], s: &[u8], from: usize) -> bool
+    requires { ⌜ now t ≡ classes ⌝ }
     ensures { λ r. ⌜ r ≡ all segment (split slash (drop from (now (s .entry)))) ⌝ }
 {
     let n = s.len();
@@ -35,7 +39,7 @@ fn all_segments(s: &[u8], from: usize) -> bool
     let mut i = from;
     loop {
         let e = find(s, i, b'/');
-        let ok = is_segment(&s[i..e]);
+        let ok = is_segment(t, &s[i..e]);
         if ok {
             if e == n {
                 return true;
@@ -57,7 +61,11 @@ pub fn is_part_name(s: &[u8]) -> bool
     if 255 < n {
         return false;
     }
-    (byte_at(s, 0) == b'/') & all_segments(s, 1)
+    if byte_at(s, 0) == b'/' {
+        let t = table();
+        return all_segments(&t, s, 1);
+    }
+    false
 }
 
 fn is_rels(s: &[u8]) -> bool

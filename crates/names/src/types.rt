@@ -5,15 +5,18 @@ use chars::search::byte_at;
 use chars::search::find;
 use chars::search::has_no;
 use chars::search::is_letter;
+use chars::table::table;
 use chars::units::Grammar;
 use chars::units::all_units;
 ghost use mathlib.Core.Path.{_≡_};
+ghost use Rattle.chars.specs.Classes.{classes};
 ghost use Rattle.names.specs.Types.{token, mediaType, extension, identifier};
 
-fn is_token(s: &[u8]) -> bool
+fn is_token(t: &[u8; 256], s: &[u8]) -> bool
+    requires { ⌜ now t ≡ classes ⌝ }
     ensures { λ r. ⌜ r ≡ token (now (s .entry)) ⌝ }
 {
-    (s.len() != 0) & all_members(Alphabet::Token, s)
+    (s.len() != 0) & all_members(t, Alphabet::Token, s)
 }
 
 pub fn is_media_type(s: &[u8]) -> bool
@@ -26,7 +29,8 @@ pub fn is_media_type(s: &[u8]) -> bool
     let i = find(s, 0, b'/');
     if i < n {
         let j = i + 1;
-        return (3 <= n) & is_token(&s[..i]) & is_token(&s[j..]);
+        let t = table();
+        return (3 <= n) & is_token(&t, &s[..i]) & is_token(&t, &s[j..]);
     }
     false
 }
@@ -38,7 +42,8 @@ pub fn is_extension(s: &[u8]) -> bool
     if 31 < n {
         return false;
     }
-    (1 <= n) & has_no(s, b'.') & all_units(Grammar::Segment, s)
+    let t = table();
+    (1 <= n) & has_no(s, b'.') & all_units(&t, Grammar::Segment, s)
 }
 
 pub fn is_id(s: &[u8]) -> bool
@@ -48,6 +53,7 @@ pub fn is_id(s: &[u8]) -> bool
     if 63 < n {
         return false;
     }
+    let t = table();
     let b = byte_at(s, 0);
-    (1 <= n) & (is_letter(b) | (b == b'_')) & all_members(Alphabet::Id, s)
+    (1 <= n) & (is_letter(b) | (b == b'_')) & all_members(&t, Alphabet::Id, s)
 }

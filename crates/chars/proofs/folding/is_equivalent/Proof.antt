@@ -1,14 +1,10 @@
-use mathlib.Core.Bool.{_&&_}
-use mathlib.Core.List.{List}
-use lib.Dec.{eqb}
-use Rattle.chars.specs.Folding.{equivalent}
-use Rattle.chars.proofs.Comparisons.{lengths-differ, equivalent-at, equivalent-end}
-use borrow.Author.Tests.{eq-eqb, ne-eqb}
 use mathlib.Core.Path.{_≡_, refl, sym, _∙_}
-use Prim.Native.Nat.{ℕ, _+_, _-_, _≤_}
+use Prim.Native.Nat.{_-_, _≤_}
 use native.Mathlib.Omega.{arith}
 use lib.ListN.{length, drop}
 use borrow.Author.Needs.{needs}
+use Rattle.chars.specs.Folding.{equivalent}
+use Rattle.chars.proofs.Comparisons.{lengths-differ, equivalent-at, equivalent-end}
 use Rattle.chars.proofs.folding.is_equivalent.Statement.{statement}
 use Rattle.chars.proofs.folding.is_equivalent.Tie as tie
 
@@ -24,37 +20,14 @@ returns c = sym (lengths-differ _ _ (c .if1 .taken))
 loop-holds : tie.Need-loop-holds Inv-loop μ-loop
 loop-holds c = (omega arith, refl)
 
-shared-slice-read-to-lower : tie.Need-shared-slice-read-to-lower Inv-loop μ-loop
-shared-slice-read-to-lower c = omega arith
+shared-slice-read-is-same-letter : tie.Need-shared-slice-read-is-same-letter Inv-loop μ-loop
+shared-slice-read-is-same-letter c = omega arith
 
-to-lower-requires : tie.Need-to-lower-requires Inv-loop μ-loop
-to-lower-requires c κs = search needs
+shared-slice-read-is-same-letter-2 : tie.Need-shared-slice-read-is-same-letter-2 Inv-loop μ-loop
+shared-slice-read-is-same-letter-2 c = omega arith
 
-shared-slice-read-to-lower-2 : tie.Need-shared-slice-read-to-lower-2 Inv-loop μ-loop
-shared-slice-read-to-lower-2 c = omega arith
-
-to-lower-requires-2 : tie.Need-to-lower-requires-2 Inv-loop μ-loop
-to-lower-requires-2 c κs = search needs
-
--- past both folds
-abbrev X : Type 0
-X = tie.After-to-lower2 Inv-loop μ-loop
-
-abbrev A : X → List ℕ
-A x = x .before .before .before .before .before .before .before .before .before .args .a .now
-
-abbrev B : X → List ℕ
-B x = x .before .before .before .before .before .before .before .before .before .args .b .now
-
-abbrev I : X → ℕ
-I x = x .before .before .before .before .before .loop .i
-
-step : (x : X) → equivalent (A x) (B x) ≡ eqb (x .before .before .to-lower .result) (x .to-lower2 .result) && equivalent (drop (I x + 1) (A x)) (drop (I x + 1) (B x))
-step x =
-    x .before .before .before .before .before .loop .inv .1 ∙ equivalent-at (A x) (B x) (I x) _ _ (x .before .before .before .before .loop-test .taken) (omega arith) (x .before .before .to-lower .ensures) (x .to-lower2 .ensures)
-
-returns-2 : tie.Need-returns-2 Inv-loop μ-loop
-returns-2 c = sym (step (c .before) ∙ rw (ne-eqb _ _ (c .if2 .taken)))
+is-same-letter-requires : tie.Need-is-same-letter-requires Inv-loop μ-loop
+is-same-letter-requires c κs = search needs
 
 add-i : tie.Need-add-i Inv-loop μ-loop
 add-i c = omega arith
@@ -63,7 +36,13 @@ loop-less : tie.Need-loop-less Inv-loop μ-loop
 loop-less c = omega arith
 
 loop-again : tie.Need-loop-again Inv-loop μ-loop
-loop-again c = (omega arith, step (c .before) ∙ rw (eq-eqb _ _ (c .if2 .left)))
+loop-again c = (
+  omega arith,
+  c .before .before .before .before .before .loop .inv .1 ∙ equivalent-at _ _ _ _ (c .before .before .before .before .loop-test .taken) (omega arith) (c .before .is-same-letter .ensures) ∙ rw (c .if2 .taken),
+)
+
+returns-2 : tie.Need-returns-2 Inv-loop μ-loop
+returns-2 c = sym (c .before .before .before .before .before .loop .inv .1 ∙ equivalent-at _ _ _ _ (c .before .before .before .before .loop-test .taken) (omega arith) (c .before .is-same-letter .ensures) ∙ rw (c .if2 .left))
 
 returns-3 : tie.Need-returns-3 Inv-loop μ-loop
 returns-3 c = sym (c .before .loop .inv .1 ∙ equivalent-end _ _ _ (c .loop-test .left) (omega arith))
@@ -76,12 +55,11 @@ is-equivalent-spec =
     μ-loop
     returns
     loop-holds
-    shared-slice-read-to-lower
-    to-lower-requires
-    shared-slice-read-to-lower-2
-    to-lower-requires-2
-    returns-2
+    shared-slice-read-is-same-letter
+    shared-slice-read-is-same-letter-2
+    is-same-letter-requires
     add-i
     loop-less
     loop-again
+    returns-2
     returns-3)

@@ -10,10 +10,10 @@ use Rattle.chars.proofs.search.all_members.Statement.{statement}
 use Rattle.chars.proofs.search.all_members.Tie as tie
 
 abbrev Inv-loop : tie.InvT-loop
-Inv-loop a s i₀ i = (i ≤ length s) × (every (member a) s ≡ every (member a) (drop i s))
+Inv-loop t a s i₀ i = (i ≤ length s) × (every (member a) s ≡ every (member a) (drop i s))
 
 abbrev μ-loop : tie.MeasureT-loop
-μ-loop a s i₀ i = length s - i
+μ-loop t a s i₀ i = length s - i
 
 loop-holds : tie.Need-loop-holds Inv-loop μ-loop
 loop-holds c = (omega arith, refl)

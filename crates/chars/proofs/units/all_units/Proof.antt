@@ -14,10 +14,10 @@ use Rattle.chars.proofs.units.all_units.Statement.{statement}
 use Rattle.chars.proofs.units.all_units.Tie as tie
 
 abbrev Inv-loop : tie.InvT-loop
-Inv-loop g s i₀ i = (i ≤ length s) × (tiled (unit g) 0 s ≡ tiled (unit g) 0 (drop i s))
+Inv-loop t g s i₀ i = (i ≤ length s) × (tiled (unit g) 0 s ≡ tiled (unit g) 0 (drop i s))
 
 abbrev μ-loop : tie.MeasureT-loop
-μ-loop g s i₀ i = length s - i
+μ-loop t g s i₀ i = length s - i
 
 loop-holds : tie.Need-loop-holds Inv-loop μ-loop
 loop-holds c = (omega arith, refl)

@@ -17,6 +17,9 @@ returns : tie.Need-returns
 unfolding iri
 returns c = rw (lt-leb _ _ (c .if1 .taken), and-false)
 
+table-requires : tie.Need-table-requires
+table-requires c κs = search needs
+
 first-member-requires : tie.Need-first-member-requires
 first-member-requires c κs = search needs
 
@@ -33,19 +36,20 @@ byte-at-requires : tie.Need-byte-at-requires
 byte-at-requires c κs = search needs
 
 slice-aggregate-is-scheme : tie.Need-slice-aggregate-is-scheme
-slice-aggregate-is-scheme c = sym (length-take-le _ (c .before .before .before .before .before .before .before .before .args .s .now) (omega (arith, c .before .before .before .before .before .first-member .ensures, first-le (member SchemeEnd) (c .before .before .before .before .before .before .before .before .args .s .now))))
+slice-aggregate-is-scheme c = sym (length-take-le _ (c .before .before .before .before .before .before .before .before .before .before .before .args .s .now) (omega (arith, c .before .before .before .before .before .before .before .first-member .ensures, first-le (member SchemeEnd) (c .before .before .before .before .before .before .before .before .before .before .before .args .s .now))))
 
 is-scheme-requires : tie.Need-is-scheme-requires
 is-scheme-requires c κs = search needs
 
 returns-2 : tie.Need-returns-2
-returns-2 c = iri-is _ (c .before .before .before .before .before .before .first-member .result) _ _ _ _ (c .before .before .before .before .before .before .before .if1 .left) (c .before .before .before .before .before .before .first-member .ensures) (c .before .before .before .before .before .all-units .ensures) (c .before .before .before .has-no .ensures ∙ ap (lacks numberSign) (c .before .before .before .before .after .ensures)) (c .before .before .byte-at .ensures) (c .is-scheme .ensures)
+returns-2 c = iri-is _ (c .before .before .before .before .before .before .before .before .first-member .result) _ _ _ _ (c .before .before .before .before .before .before .before .before .before .before .if1 .left) (c .before .before .before .before .before .before .before .before .first-member .ensures) (c .before .before .before .before .before .before .all-units .ensures) (c .before .before .before .before .has-no .ensures ∙ ap (lacks numberSign) (c .before .before .before .before .before .after .ensures)) (c .before .before .before .byte-at .ensures) (c .is-scheme .ensures)
 
 pub is-iri-spec : {M : Type 1} → statement M
 is-iri-spec =
     tie.close
     (tie.spec
     returns
+    table-requires
     first-member-requires
     all-units-requires
     after-requires

@@ -13,10 +13,10 @@ use Rattle.names.proofs.parts.all_segments.Statement.{statement}
 use Rattle.names.proofs.parts.all_segments.Tie as tie
 
 abbrev Inv-loop : tie.InvT-loop
-Inv-loop s from n i₀ i = (i ≤ length s) × (all segment (split slash (drop from s)) ≡ all segment (split slash (drop i s)))
+Inv-loop t s from n i₀ i = (i ≤ length s) × (all segment (split slash (drop from s)) ≡ all segment (split slash (drop i s)))
 
 abbrev μ-loop : tie.MeasureT-loop
-μ-loop s from n i₀ i = length s - i
+μ-loop t s from n i₀ i = length s - i
 
 returns : tie.Need-returns Inv-loop μ-loop
 unfolding split segment lastByte

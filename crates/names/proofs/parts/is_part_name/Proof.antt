@@ -1,4 +1,4 @@
-use borrow.Author.Tests.{le-leb, lt-leb}
+use borrow.Author.Tests.{le-leb, lt-leb, ne-eqb}
 use Rattle.chars.proofs.Bools.{and-false}
 use Rattle.names.specs.Names.{partName}
 use borrow.Author.Needs.{needs}
@@ -16,13 +16,28 @@ returns-2 c = rw (lt-leb _ _ (c .if2 .taken), and-false)
 byte-at-requires : tie.Need-byte-at-requires
 byte-at-requires c κs = search needs
 
+table-requires : tie.Need-table-requires
+table-requires c κs = search needs
+
 all-segments-requires : tie.Need-all-segments-requires
 all-segments-requires c κs = search needs
 
 returns-3 : tie.Need-returns-3
 unfolding partName
-returns-3 c = rw (c .all-segments .ensures, c .before .byte-at .ensures, le-leb _ _ (c .before .before .before .if1 .left), le-leb _ _ (c .before .before .if2 .left))
+returns-3 c = rw (c .all-segments .ensures, ← c .before .before .before .before .byte-at .ensures, c .before .before .before .if3 .taken, le-leb _ _ (c .before .before .before .before .before .before .if1 .left), le-leb _ _ (c .before .before .before .before .before .if2 .left))
+
+returns-4 : tie.Need-returns-4
+unfolding partName
+returns-4 c = rw (← c .before .byte-at .ensures, ne-eqb _ _ (c .if3 .left), and-false)
 
 pub is-part-name-spec : {M : Type 1} → statement M
 is-part-name-spec =
-    tie.close (tie.spec returns returns-2 byte-at-requires all-segments-requires returns-3)
+    tie.close
+    (tie.spec
+    returns
+    returns-2
+    byte-at-requires
+    table-requires
+    all-segments-requires
+    returns-3
+    returns-4)

@@ -9,6 +9,9 @@ returns : tie.Need-returns
 unfolding identifier
 returns c = rw (lt-leb _ _ (c .if1 .taken), and-false)
 
+table-requires : tie.Need-table-requires
+table-requires c κs = search needs
+
 byte-at-requires : tie.Need-byte-at-requires
 byte-at-requires c κs = search needs
 
@@ -20,8 +23,15 @@ all-members-requires c κs = search needs
 
 returns-2 : tie.Need-returns-2
 unfolding identifier
-returns-2 c = rw (c .all-members .ensures, c .before .is-letter .ensures, c .before .before .byte-at .ensures, le-leb _ _ (c .before .before .before .if1 .left), and-right-true)
+returns-2 c = rw (c .all-members .ensures, c .before .before .is-letter .ensures, c .before .before .before .byte-at .ensures, le-leb _ _ (c .before .before .before .before .before .if1 .left), and-right-true)
 
 pub is-id-spec : {M : Type 1} → statement M
 is-id-spec =
-    tie.close (tie.spec returns byte-at-requires is-letter-requires all-members-requires returns-2)
+    tie.close
+    (tie.spec
+    returns
+    table-requires
+    byte-at-requires
+    is-letter-requires
+    all-members-requires
+    returns-2)

@@ -19,8 +19,11 @@ find-requires c κs = search needs
 add-j : tie.Need-add-j
 add-j c = search needs
 
+table-requires : tie.Need-table-requires
+table-requires c κs = search needs
+
 slice-aggregate-is-token : tie.Need-slice-aggregate-is-token
-slice-aggregate-is-token c = sym (length-take-le _ (c .before .before .before .before .before .args .s .now) (omega arith))
+slice-aggregate-is-token c = sym (length-take-le _ (c .before .before .before .before .before .before .before .args .s .now) (omega arith))
 
 is-token-requires : tie.Need-is-token-requires
 is-token-requires c κs = search needs
@@ -38,7 +41,7 @@ is-token-requires-2 : tie.Need-is-token-requires-2
 is-token-requires-2 c κs = search needs
 
 returns-2 : tie.Need-returns-2
-returns-2 c = media-is _ _ (c .before .before .before .before .before .find .ensures) _ _ (c .before .before .before .before .before .before .if1 .left) (c .before .before .is-token .ensures) (c .is-token2 .ensures)
+returns-2 c = media-is _ _ (c .before .before .before .before .before .before .before .before .find .ensures) _ _ (c .before .before .before .before .before .before .before .before .before .if1 .left) (c .before .before .before .is-token .ensures) (c .is-token2 .ensures)
 
 returns-3 : tie.Need-returns-3
 returns-3 c = sym (media-no _ _ (c .before .find .ensures) (c .if2 .left))
@@ -50,6 +53,7 @@ is-media-type-spec =
     returns
     find-requires
     add-j
+    table-requires
     slice-aggregate-is-token
     is-token-requires
     sub-is-token

@@ -7,14 +7,14 @@ use borrow.Author.Needs.{needs}
 use Rattle.chars.specs.Bytes.{member}
 use Rattle.chars.specs.Lists.{firstOf}
 use Rattle.chars.proofs.Searches.{first-hit, first-miss, first-end}
-use Rattle.chars.proofs.search.first_member.Statement.{statement}
-use Rattle.chars.proofs.search.first_member.Tie as tie
+use Rattle.chars.proofs.search.first_by.Statement.{statement}
+use Rattle.chars.proofs.search.first_by.Tie as tie
 
 abbrev Inv-loop : tie.InvT-loop
-Inv-loop a s i₀ i = firstOf (member a) s ≡ i + firstOf (member a) (drop i s)
+Inv-loop t a s i₀ i = firstOf (member a) s ≡ i + firstOf (member a) (drop i s)
 
 abbrev μ-loop : tie.MeasureT-loop
-μ-loop a s i₀ i = length s - i
+μ-loop t a s i₀ i = length s - i
 
 loop-holds : tie.Need-loop-holds Inv-loop μ-loop
 loop-holds c = sym (zero-add _)
@@ -40,7 +40,7 @@ loop-again c = c .before .before .before .before .loop .inv ∙ first-miss (memb
 returns-2 : tie.Need-returns-2 Inv-loop μ-loop
 returns-2 c = sym (c .before .loop .inv ∙ first-end (member _) _ _ (c .loop-test .left))
 
-pub first-member-spec : {M : Type 1} → statement M
-first-member-spec =
+pub first-by-spec : {M : Type 1} → statement M
+first-by-spec =
     tie.close
     (tie.spec Inv-loop μ-loop loop-holds shared-slice-read-is-member is-member-requires returns add-i loop-less loop-again returns-2)
