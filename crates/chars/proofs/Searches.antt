@@ -1,7 +1,7 @@
 -- What a loop over a text cites: the text from the position i on, and the text up to i.
 -- Assumes nothing.
 use mathlib.Core.Path.{_≡_, refl, sym, ap, _∙_}
-use mathlib.Core.Bool.{Bool, true, false, _&&_, cond}
+use mathlib.Core.Bool.{Bool, true, false, not, _&&_, cond, false≢true}
 use mathlib.Core.List.{List, [], _∷_, _++_}
 use Prim.Native.Nat.{ℕ, zero, suc, _+_, _-_, _≤_, _<_}
 use native.Mathlib.Nat.{zero-add}
@@ -12,6 +12,7 @@ use lib.ListN.{length, take, drop, getD, drop-of-length-le, length-drop}
 use lib.Seq.{drop-cons, drop-length, take-suc, take-all, length-take-le}
 use borrow.Author.Tests.{eq-eqb, ne-eqb}
 use Rattle.chars.specs.Lists.{every, firstOf, indexOf, lacks, afterFirst, afterLast}
+use Rattle.chars.proofs.Bools.{and-left, and-right, and-true}
 
 -- the part s[i..] of a slice
 pub take-rest : (s : List ℕ) (i : ℕ) → take (length s - i) (drop i s) ≡ drop i s
@@ -121,3 +122,54 @@ last-le b (x ∷ s) = go (afterLast b s) (eqb x b) (last-le b s)
     go zero true h = omega arith
     go zero false h = omega arith
     go (suc n) q h = omega arith
+
+-- a byte that stands nowhere in s: the first one after s, and the last one before it
+pub index-append : (b : ℕ) (s t : List ℕ) → every (λ (x : ℕ). not (eqb x b)) s ≡ true → indexOf b (s ++ b ∷ t) ≡ length s
+unfolding every firstOf
+index-append b [] t e = rw (eq-eqb b b refl)
+index-append b (x ∷ s) t e = go (eqb x b) (index-append b s t) e
+  where
+    go : (q : Bool) → (every (λ (y : ℕ). not (eqb y b)) s ≡ true → indexOf b (s ++ b ∷ t) ≡ length s) → (not q && every (λ (y : ℕ). not (eqb y b)) s) ≡ true
+        → cond q 0 (suc (indexOf b (s ++ b ∷ t))) ≡ suc (length s)
+    go true ih f = absurd (false≢true f)
+    go false ih f = ap suc (ih f)
+
+pub last-none : (b : ℕ) (s : List ℕ) → every (λ (x : ℕ). not (eqb x b)) s ≡ true → afterLast b s ≡ 0
+unfolding every afterLast
+last-none b [] e = refl
+last-none b (x ∷ s) e = go (eqb x b) (last-none b s) e
+  where
+    go : (q : Bool) → (every (λ (y : ℕ). not (eqb y b)) s ≡ true → afterLast b s ≡ 0) → (not q && every (λ (y : ℕ). not (eqb y b)) s) ≡ true → afterFirst q (afterLast b s) ≡ 0
+    go true ih f = absurd (false≢true f)
+    go false ih f = rw (ih f)
+
+pub last-append : (b : ℕ) (s t : List ℕ) → afterLast b t ≡ 0 → afterLast b (s ++ b ∷ t) ≡ suc (length s)
+unfolding afterLast
+last-append b [] t e = rw (e, eq-eqb b b refl)
+last-append b (x ∷ s) t e = rw (last-append b s t e)
+
+pub every-append : (p : ℕ → Bool) (s t : List ℕ) → every p s ≡ true → every p t ≡ true → every p (s ++ t) ≡ true
+unfolding every
+every-append p [] t e f = f
+every-append p (x ∷ s) t e f = and-true (p x) (every p (s ++ t)) (and-left (p x) (every p s) e) (every-append p s t (and-right (p x) (every p s) e) f)
+
+pub every-imp : (p r : ℕ → Bool) → ((x : ℕ) → p x ≡ true → r x ≡ true) → (s : List ℕ) → every p s ≡ true → every r s ≡ true
+unfolding every
+every-imp p r h [] e = refl
+every-imp p r h (x ∷ s) e = and-true (r x) (every r s) (h x (and-left (p x) (every p s) e)) (every-imp p r h s (and-right (p x) (every p s) e))
+
+pub every-getD : (p : ℕ → Bool) → p 0 ≡ true → (s : List ℕ) (i : ℕ) → every p s ≡ true → p (getD s i 0) ≡ true
+unfolding every
+every-getD p z [] i e = z
+every-getD p z (x ∷ s) zero e = and-left (p x) (every p s) e
+every-getD p z (x ∷ s) (suc i) e = every-getD p z s i (and-right (p x) (every p s) e)
+
+-- a text that begins with b has a last b
+pub last-pos : (b : ℕ) (s : List ℕ) → 0 < b → getD s 0 0 ≡ b → 0 < afterLast b s
+unfolding afterLast
+last-pos b [] h e = absurd (omega arith)
+last-pos b (x ∷ s) h e = rw (eq-eqb x b e) (go (afterLast b s))
+  where
+    go : (n : ℕ) → 0 < afterFirst true n
+    go zero = omega arith
+    go (suc n) = omega arith

@@ -10,7 +10,9 @@ use native.Mathlib.Omega.{arith}
 use lib.Dec.{eqb}
 use lib.ListN.{length, take, drop, length-drop}
 use lib.Seq.{drop-drop, take-all}
-use Rattle.chars.specs.Lists.{firstOf, indexOf, split, cut, all}
+use borrow.Author.Tests.{eqb-true}
+use Rattle.chars.specs.Lists.{every, firstOf, indexOf, split, cut, all}
+use Rattle.chars.proofs.Bools.{and-left, and-right, and-true}
 use Rattle.chars.proofs.Searches.{index-le}
 
 module _ (b : ℕ) where
@@ -59,3 +61,21 @@ module _ (b : ℕ) where
 
       pub all-not : p (take (e - i) (drop i s)) ≡ false → all p (split b (drop i s)) ≡ false
       all-not f = ⊎-elim (λ q. rw (last-is q, f)) (λ l. rw (more-is l, f)) (eq-or-lt-of-le stretch-le)
+
+-- what every byte of every stretch passes, and b, every byte passes
+pub split-every : (b : ℕ) (q : ℕ → Bool) → q b ≡ true → (s : List ℕ) → all (every q) (split b s) ≡ true → every q s ≡ true
+unfolding split every
+split-every b q h [] e = refl
+split-every b q h (x ∷ s) e = go (eqb x b) refl (split b s) (λ k. split-every b q h s k) e
+  where
+    go : (p : Bool) → eqb x b ≡ p → (l : List (List ℕ)) → (all (every q) l ≡ true → every q s ≡ true) → all (every q) (cut p x l) ≡ true → (q x && every q s) ≡ true
+    go true f l ih e = and-true (q x) (every q s) (ap q (eqb-true x b f) ∙ h) (ih e)
+    go false f [] ih e = and-true (q x) (every q s) (and-left (q x) true (and-left (q x && true) true e)) (ih refl)
+    go false f (y ∷ l) ih e =
+        let k : (q x && every q y) ≡ true = and-left (q x && every q y) (all (every q) l) e in
+        and-true (q x) (every q s) (and-left (q x) (every q y) k)
+        (ih (and-true (every q y) (all (every q) l) (and-right (q x) (every q y) k) (and-right (q x && every q y) (all (every q) l) e)))
+
+pub all-imp : (p r : List ℕ → Bool) → ((s : List ℕ) → p s ≡ true → r s ≡ true) → (l : List (List ℕ)) → all p l ≡ true → all r l ≡ true
+all-imp p r h [] e = refl
+all-imp p r h (x ∷ l) e = and-true (r x) (all r l) (h x (and-left (p x) (all p l) e)) (all-imp p r h l (and-right (p x) (all p l) e))

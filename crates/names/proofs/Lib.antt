@@ -3,3 +3,5 @@ pub mod Digits
 pub mod Suffixes
 pub mod Reserved
 pub mod IriParts
+pub mod NameBytes
+pub mod Spelling
