@@ -1,0 +1,175 @@
+//! Judging and comparing typical names: the archive beside the reference.
+
+use std::hint::black_box;
+use std::time::Instant;
+
+/// How often a round goes through all names, and how many rounds there are.
+const PASSES: usize = 500;
+const ROUNDS: usize = 15;
+
+/// 200 names as a slide has them: tiles, pieces, some UTF-8 and triplets.
+fn typical_names() -> Vec<Vec<u8>> {
+    let mut names = Vec::new();
+    for i in 0..200 {
+        let (row, column, level) = (i * 7 % 40, i * 13 % 64, i % 5);
+        let tile = format!("tiles/L{level}/r{row:03}c{column:03}.tiff");
+        names.push(match i % 10 {
+            0 => format!("/slides/2026/ovary-17/{tile}/[{i}].piece"),
+            1 => format!("/Slides/2026/Ovary-17/{tile}/[{}].LAST.piece", i + 9000),
+            2 => format!("/slides/2026/Klinik-Süd/{tile}"),
+            3 => format!("/slides/2026/left%20ovary/{tile}"),
+            4 => format!("/SLIDES/2026/OVARY-17/tiles/L{level}/sheet-{i}.xml"),
+            // equivalent to its neighbour
+            5 => format!(
+                "/slides/2026/ovary-17/tiles/L{}/sheet-{}.xml",
+                (i - 1) % 5,
+                i - 1
+            ),
+            _ => format!("/slides/2026/ovary-17/{tile}"),
+        });
+    }
+    names.into_iter().map(String::into_bytes).collect()
+}
+
+fn typical_media_types() -> Vec<Vec<u8>> {
+    let types = [
+        "image/tiff",
+        "text/xml",
+        "application/octet-stream",
+        "application/vnd.openxmlformats-package.relationships+xml",
+    ];
+    (0..200).map(|i| types[i % types.len()].into()).collect()
+}
+
+fn typical_iris() -> Vec<Vec<u8>> {
+    let iri = |i: usize| match i % 4 {
+        0 => format!("http://slides.example.org/2026/ovary-17?level={i}#tile"),
+        1 => format!("../tiles/L3/r{i:03}c044.tiff"),
+        2 => format!("http://schemas.example.org/relationships/tile-{i}"),
+        _ => format!("/slides/2026/Süd%20{i}/count.xml"),
+    };
+    (0..200).map(|i| iri(i).into_bytes()).collect()
+}
+
+/// The seconds of one round.
+fn round(texts: &[Vec<u8>], call: impl Fn(&[u8], &[u8]) -> usize) -> f64 {
+    let start = Instant::now();
+    let mut sum = 0;
+    for _ in 0..PASSES {
+        for (i, text) in texts.iter().enumerate() {
+            let neighbour = &texts[(i + 1) % texts.len()];
+            sum += call(black_box(text), black_box(neighbour));
+        }
+    }
+    black_box(sum);
+    start.elapsed().as_secs_f64()
+}
+
+fn median(mut times: Vec<f64>) -> f64 {
+    times.sort_by(f64::total_cmp);
+    times[times.len() / 2]
+}
+
+/// Runs both sides in turn and prints a line.
+fn compare(
+    what: &str,
+    texts: &[Vec<u8>],
+    archive: impl Fn(&[u8], &[u8]) -> usize,
+    reference: impl Fn(&[u8], &[u8]) -> usize,
+) {
+    for (i, text) in texts.iter().enumerate() {
+        let neighbour = &texts[(i + 1) % texts.len()];
+        assert_eq!(
+            archive(text, neighbour),
+            reference(text, neighbour),
+            "{what}"
+        );
+    }
+    let (mut archive_times, mut reference_times) = (Vec::new(), Vec::new());
+    for number in 0..=ROUNDS {
+        let (a, r) = (round(texts, &archive), round(texts, &reference));
+        if number > 0 {
+            archive_times.push(a);
+            reference_times.push(r);
+        } // else it was the warm-up
+    }
+    let (a, r) = (median(archive_times), median(reference_times));
+    let rate = |seconds| (PASSES * texts.len()) as f64 / seconds / 1e6;
+    println!("{what:16} {:10.2} {:10.2} {:8.2}", rate(a), rate(r), a / r);
+}
+
+/// An item name's answer as one number, the same on both sides.
+fn item_number(prefix: &[u8], piece: Option<(u16, bool)>) -> usize {
+    let (number, last) = piece.map_or((0, false), |(k, last)| (usize::from(k) + 1, last));
+    prefix.len() + number * 1000 + usize::from(last)
+}
+
+fn taken_by_archive(name: &[u8]) -> usize {
+    let item = zombirels::names::take_apart(name);
+    item.map_or(0, |item| {
+        item_number(item.prefix, item.piece.map(|p| (p.number, p.last)))
+    })
+}
+
+fn taken_by_reference(name: &[u8]) -> usize {
+    let item = reference::names::take_apart(name);
+    item.map_or(0, |item| {
+        item_number(item.prefix, item.piece.map(|p| (p.number, p.last)))
+    })
+}
+
+fn main() {
+    use reference::{iri as ref_iri, names as ref_names};
+    use zombirels::{iri, names};
+    let (texts, types, iris) = (typical_names(), typical_media_types(), typical_iris());
+    let parts: Vec<Vec<u8>> = texts
+        .iter()
+        .map(|name| {
+            names::take_apart(name)
+                .expect("an item name")
+                .prefix
+                .to_vec()
+        })
+        .collect();
+    println!("million calls per second; ratio: archive time / reference time");
+    println!(
+        "{:16} {:>10} {:>10} {:>8}",
+        "", "archive", "reference", "ratio"
+    );
+    compare(
+        "is_part_name",
+        &parts,
+        |a, _| usize::from(names::is_part_name(a)),
+        |a, _| usize::from(ref_names::is_part_name(a)),
+    );
+    compare(
+        "take_apart",
+        &texts,
+        |a, _| taken_by_archive(a),
+        |a, _| taken_by_reference(a),
+    );
+    compare(
+        "is_media_type",
+        &types,
+        |a, _| usize::from(names::is_media_type(a)),
+        |a, _| usize::from(ref_names::is_media_type(a)),
+    );
+    compare(
+        "is_iri",
+        &iris,
+        |a, _| usize::from(iri::is_iri(a)),
+        |a, _| usize::from(ref_iri::is_iri(a)),
+    );
+    compare(
+        "is_equivalent",
+        &parts,
+        |a, b| usize::from(names::is_equivalent(a, b)),
+        |a, b| usize::from(ref_names::is_equivalent(a, b)),
+    );
+    compare(
+        "compare_folded",
+        &parts,
+        |a, b| names::compare_folded(a, b) as usize,
+        |a, b| ref_names::compare_folded(a, b) as usize,
+    );
+}

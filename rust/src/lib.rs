@@ -1,0 +1,27 @@
+//! Zombirels: names, media types, IRIs and relationships of Open Packaging
+//! packages (ISO/IEC 29500-2).
+//!
+//! This crate is a thin, safe layer over the engine's static archive. All
+//! calls take byte slices and never fail otherwise than by a [`Refusal`]:
+//! any bytes may be given, and a refused call changes nothing.
+//!
+//! - [`names`] judges, compares and takes apart part names and item names,
+//!   and judges the other fields of a package;
+//! - [`iri`] judges IRIs.
+//!
+//! ```
+//! use zombirels::names;
+//!
+//! assert!(names::is_part_name(b"/slides/ovary-17/L3.tiff"));
+//! assert!(names::is_equivalent(b"/Left/T3", b"/left/t3"));
+//! let item = names::take_apart(b"/left/t3/[2].last.piece").unwrap();
+//! assert_eq!(item.prefix, b"/left/t3");
+//! assert!(item.piece.unwrap().last);
+//! ```
+
+mod ffi;
+pub mod iri;
+pub mod names;
+mod refusal;
+
+pub use refusal::Refusal;

@@ -1,0 +1,179 @@
+use crate::ffi::Reply;
+use std::fmt;
+
+/// Why a call is refused.
+///
+/// A refused call changes nothing: the package and every lent output hold
+/// what they held before.
+#[derive(Clone, Copy, Debug, PartialEq, Eq, Hash)]
+#[non_exhaustive]
+pub enum Refusal {
+    /// 1: the lent buffer is no package.
+    NotAPackage,
+    /// 2: the capacity is above 1,000,000, or the buffer is too short for it.
+    BadStart,
+    /// 3: the output is too short.
+    OutputTooShort {
+        /// How many bytes the output must have.
+        needed: usize,
+    },
+    /// 4: the name is not a part name.
+    NotAPartName,
+    /// 5: the name is reserved for Relationships parts.
+    Reserved,
+    /// 6: after the last slash stands a `[` that begins no piece suffix.
+    BadSuffix,
+    /// 7: not a media type, or not an extension.
+    BadType,
+    /// 8: not an id, not a relationship type, or not a mode.
+    BadRelationshipField,
+    /// 9: not a target, not a package IRI, or not a pack IRI.
+    BadTarget,
+    /// 10: the name or the key is taken.
+    Taken,
+    /// 11: the name would grow out of a held one, or a held one out of it.
+    Derivable,
+    /// 12: the pieces disagree, as with a whole item beside a piece.
+    PiecesDisagree,
+    /// 13: not held, no part yet, or no such position.
+    NotHeld,
+    /// 14: the part has no media type.
+    NoMediaType,
+    /// 15: a set is full, or the charge would pass the capacity.
+    Full,
+    /// 16: the line is unreadable.
+    UnreadableLine,
+}
+
+impl Refusal {
+    /// The number of the refusal, 1 to 16.
+    pub fn number(self) -> u8 {
+        match self {
+            Refusal::NotAPackage => 1,
+            Refusal::BadStart => 2,
+            Refusal::OutputTooShort { .. } => 3,
+            Refusal::NotAPartName => 4,
+            Refusal::Reserved => 5,
+            Refusal::BadSuffix => 6,
+            Refusal::BadType => 7,
+            Refusal::BadRelationshipField => 8,
+            Refusal::BadTarget => 9,
+            Refusal::Taken => 10,
+            Refusal::Derivable => 11,
+            Refusal::PiecesDisagree => 12,
+            Refusal::NotHeld => 13,
+            Refusal::NoMediaType => 14,
+            Refusal::Full => 15,
+            Refusal::UnreadableLine => 16,
+        }
+    }
+
+    fn message(self) -> &'static str {
+        match self {
+            Refusal::NotAPackage => "the buffer is no package",
+            Refusal::BadStart => "the capacity is too large or the buffer too short",
+            Refusal::OutputTooShort { .. } => "the output is too short",
+            Refusal::NotAPartName => "not a part name",
+            Refusal::Reserved => "the name is reserved",
+            Refusal::BadSuffix => "not a piece suffix",
+            Refusal::BadType => "not a media type or not an extension",
+            Refusal::BadRelationshipField => "not an id, relationship type or mode",
+            Refusal::BadTarget => "not a target, package IRI or pack IRI",
+            Refusal::Taken => "the name or key is taken",
+            Refusal::Derivable => "one name would be derivable from another",
+            Refusal::PiecesDisagree => "the pieces disagree",
+            Refusal::NotHeld => "not held",
+            Refusal::NoMediaType => "the part has no media type",
+            Refusal::Full => "the package is full",
+            Refusal::UnreadableLine => "the line is unreadable",
+        }
+    }
+
+    /// The refusal with that number, if there is one.
+    fn from_number(number: u64, needed: usize) -> Option<Refusal> {
+        Some(match number {
+            1 => Refusal::NotAPackage,
+            2 => Refusal::BadStart,
+            3 => Refusal::OutputTooShort { needed },
+            4 => Refusal::NotAPartName,
+            5 => Refusal::Reserved,
+            6 => Refusal::BadSuffix,
+            7 => Refusal::BadType,
+            8 => Refusal::BadRelationshipField,
+            9 => Refusal::BadTarget,
+            10 => Refusal::Taken,
+            11 => Refusal::Derivable,
+            12 => Refusal::PiecesDisagree,
+            13 => Refusal::NotHeld,
+            14 => Refusal::NoMediaType,
+            15 => Refusal::Full,
+            16 => Refusal::UnreadableLine,
+            _ => return None,
+        })
+    }
+}
+
+impl fmt::Display for Refusal {
+    fn fmt(&self, f: &mut fmt::Formatter<'_>) -> fmt::Result {
+        write!(f, "{}", self.message())?;
+        if let Refusal::OutputTooShort { needed } = self {
+            write!(f, ", {needed} bytes are needed")?;
+        }
+        write!(f, " (refusal {})", self.number())
+    }
+}
+
+impl std::error::Error for Refusal {}
+
+impl Reply {
+    /// The values of an accepted call, of which `N` must count, or the refusal.
+    pub(crate) fn values<const N: usize>(self) -> Result<[usize; N], Refusal> {
+        if self.number != 0 {
+            let refusal = Refusal::from_number(self.number, self.first as usize);
+            return Err(refusal.expect("the archive knows only refusals 1 to 16"));
+        }
+        assert_eq!(self.count, N as u64, "values in the archive's answer");
+        let values = [self.first, self.second, self.third];
+        Ok(std::array::from_fn(|i| values[i] as usize))
+    }
+}
+
+#[cfg(test)]
+mod tests {
+    use super::*;
+
+    #[test]
+    fn numbers_go_forth_and_back() {
+        for number in 1..=16 {
+            let refusal = Refusal::from_number(number, 7).unwrap();
+            assert_eq!(u64::from(refusal.number()), number);
+            let text = refusal.to_string();
+            assert!(text.ends_with(&format!("(refusal {number})")), "{text}");
+        }
+        assert_eq!(Refusal::from_number(0, 0), None);
+        assert_eq!(Refusal::from_number(17, 0), None);
+    }
+
+    #[test]
+    fn the_length_needed_is_shown() {
+        let refusal = Refusal::OutputTooShort { needed: 12 };
+        let expected = "the output is too short, 12 bytes are needed (refusal 3)";
+        assert_eq!(refusal.to_string(), expected);
+    }
+
+    #[test]
+    fn replies() {
+        let reply = |number, count| Reply {
+            number,
+            count,
+            first: 5,
+            second: 6,
+            third: 7,
+        };
+        assert_eq!(reply(0, 2).values(), Ok([5, 6]));
+        assert_eq!(reply(0, 0).values::<0>(), Ok([]));
+        assert_eq!(reply(4, 0).values::<1>(), Err(Refusal::NotAPartName));
+        let short = Err(Refusal::OutputTooShort { needed: 5 });
+        assert_eq!(reply(3, 1).values::<3>(), short);
+    }
+}
