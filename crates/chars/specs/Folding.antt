@@ -1,7 +1,7 @@
 -- Folding, and what is compared by it.
 -- Assumes nothing.
 use Prim.Native.Nat.{ℕ, _+_, _-_}
-use mathlib.Core.Bool.{Bool, _&&_, cond}
+use mathlib.Core.Bool.{Bool, true, false, _&&_, cond}
 use mathlib.Core.List.{List, [], _∷_, _++_, map}
 use Prim.Native.Char.{code}
 use lib.Dec.{leb, ltb, eqb}
@@ -17,6 +17,11 @@ lower b = cond (within (code "A") (code "Z") b) (b + 32) b
 
 abbrev pub fold : List ℕ → List ℕ
 fold s = map lower s
+
+-- a byte folded, or as it stands
+abbrev pub inCase : Bool → ℕ → ℕ
+inCase true = lower
+inCase false = λ b. b
 
 -- "Two names are equivalent if their foldings are equal."
 unfoldable pub equivalent : List ℕ → List ℕ → Bool

@@ -1,8 +1,9 @@
 // Folding, and what is compared by it.
 use crate::search::byte_at;
 ghost use mathlib.Core.Path.{_≡_};
+ghost use mathlib.Core.List.{map};
 ghost use lib.Dec.{eqb};
-ghost use Rattle.chars.specs.Folding.{lower, equivalent, derivable, foldedOrder, endsIn};
+ghost use Rattle.chars.specs.Folding.{lower, inCase, equivalent, derivable, order, foldedOrder, endsIn};
 
 pub enum Order {
     Less,
@@ -60,16 +61,23 @@ pub fn is_derivable(a: &[u8], b: &[u8]) -> bool
     false
 }
 
-pub fn compare_folded(a: &[u8], b: &[u8]) -> Order
-    ensures { λ r. ⌜ r ≡ foldedOrder (now (a .entry)) (now (b .entry)) ⌝ }
+fn to_case(folded: bool, b: u8) -> u8
+    ensures { λ r. ⌜ r ≡ inCase folded b ⌝ }
+{
+    if folded { to_lower(b) } else { b }
+}
+
+// Byte by byte, folded or as they stand; a proper prefix comes first.
+fn compare_by(folded: bool, a: &[u8], b: &[u8]) -> Order
+    ensures { λ r. ⌜ r ≡ order (map (inCase folded) (now (a .entry))) (map (inCase folded) (now (b .entry))) ⌝ }
 {
     let mut i = 0;
     while i < a.len() {
         if b.len() <= i {
             return Order::Greater;
         }
-        let x = to_lower(a[i]);
-        let y = to_lower(b[i]);
+        let x = to_case(folded, a[i]);
+        let y = to_case(folded, b[i]);
         if x < y {
             return Order::Less;
         }
@@ -82,6 +90,18 @@ pub fn compare_folded(a: &[u8], b: &[u8]) -> Order
         return Order::Less;
     }
     Order::Equal
+}
+
+pub fn compare(a: &[u8], b: &[u8]) -> Order
+    ensures { λ r. ⌜ r ≡ order (now (a .entry)) (now (b .entry)) ⌝ }
+{
+    compare_by(false, a, b)
+}
+
+pub fn compare_folded(a: &[u8], b: &[u8]) -> Order
+    ensures { λ r. ⌜ r ≡ foldedOrder (now (a .entry)) (now (b .entry)) ⌝ }
+{
+    compare_by(true, a, b)
 }
 
 pub fn ends_in(s: &[u8], e: &[u8]) -> bool

@@ -1,98 +1,14 @@
-use mathlib.Core.Bool.{cond}
-use mathlib.Core.List.{List}
-use lib.Dec.{ltb}
-use Rattle.chars.specs.declared.folding.Order.the-variants.{Less, Greater}
 use Rattle.chars.specs.Folding.{foldedOrder}
-use Rattle.chars.proofs.Comparisons.{order-at, order-same, order-shorter, order-longer}
-use borrow.Author.Tests.{lt-ltb, le-ltb}
-use mathlib.Core.Path.{_≡_, refl, sym, _∙_}
-use Prim.Native.Nat.{ℕ, _+_, _-_, _≤_}
-use native.Mathlib.Omega.{arith}
-use lib.ListN.{length, drop}
 use borrow.Author.Needs.{needs}
 use Rattle.chars.proofs.folding.compare_folded.Statement.{statement}
 use Rattle.chars.proofs.folding.compare_folded.Tie as tie
 
-abbrev Inv-loop : tie.InvT-loop
-Inv-loop a b i₀ i = (i ≤ length a) × (foldedOrder a b ≡ foldedOrder (drop i a) (drop i b))
+compare-by-requires : tie.Need-compare-by-requires
+compare-by-requires c κs = search needs
 
-abbrev μ-loop : tie.MeasureT-loop
-μ-loop a b i₀ i = length a - i
-
-loop-holds : tie.Need-loop-holds Inv-loop μ-loop
-loop-holds c = (omega arith, refl)
-
-returns : tie.Need-returns Inv-loop μ-loop
-returns c = sym (c .before .before .loop .inv .1 ∙ order-longer _ _ _ (c .before .loop-test .taken) (c .if1 .taken))
-
-shared-slice-read-to-lower : tie.Need-shared-slice-read-to-lower Inv-loop μ-loop
-shared-slice-read-to-lower c = omega arith
-
-to-lower-requires : tie.Need-to-lower-requires Inv-loop μ-loop
-to-lower-requires c κs = search needs
-
-shared-slice-read-to-lower-2 : tie.Need-shared-slice-read-to-lower-2 Inv-loop μ-loop
-shared-slice-read-to-lower-2 c = omega arith
-
-to-lower-requires-2 : tie.Need-to-lower-requires-2 Inv-loop μ-loop
-to-lower-requires-2 c κs = search needs
-
--- past both folds
-abbrev X : Type 0
-X = tie.After-to-lower2 Inv-loop μ-loop
-
-abbrev A : X → List ℕ
-A x = x .before .before .before .before .before .before .before .before .before .args .a .now
-
-abbrev B : X → List ℕ
-B x = x .before .before .before .before .before .before .before .before .before .args .b .now
-
-abbrev I : X → ℕ
-I x = x .before .before .before .before .before .before .loop .i
-
-step : (x : X) → foldedOrder (A x) (B x)
-    ≡ cond (ltb (x .before .before .to-lower .result) (x .to-lower2 .result)) Less
-    (cond (ltb (x .to-lower2 .result) (x .before .before .to-lower .result)) Greater (foldedOrder (drop (I x + 1) (A x)) (drop (I x + 1) (B x))))
-step x =
-    x .before .before .before .before .before .before .loop .inv .1 ∙ order-at (A x) (B x) (I x) _ _ (x .before .before .before .before .before .loop-test .taken) (x .before .before .before .before .if1 .left) (x .before .before .to-lower .ensures) (x .to-lower2 .ensures)
-
-returns-2 : tie.Need-returns-2 Inv-loop μ-loop
-returns-2 c = sym (step (c .before) ∙ rw (lt-ltb _ _ (c .if2 .taken)))
-
-returns-3 : tie.Need-returns-3 Inv-loop μ-loop
-returns-3 c = sym (step (c .before .before) ∙ rw (le-ltb _ _ (c .before .if2 .left), lt-ltb _ _ (c .if3 .taken)))
-
-add-i : tie.Need-add-i Inv-loop μ-loop
-add-i c = omega arith
-
-loop-less : tie.Need-loop-less Inv-loop μ-loop
-loop-less c = omega arith
-
-loop-again : tie.Need-loop-again Inv-loop μ-loop
-loop-again c = (omega arith, step (c .before .before) ∙ rw (le-ltb _ _ (c .before .if2 .left), le-ltb _ _ (c .if3 .left)))
-
-returns-4 : tie.Need-returns-4 Inv-loop μ-loop
-returns-4 c = sym (c .before .before .loop .inv .1 ∙ order-shorter _ _ _ (c .before .loop-test .left) (c .if4 .taken))
-
-returns-5 : tie.Need-returns-5 Inv-loop μ-loop
-returns-5 c = sym (c .before .before .loop .inv .1 ∙ order-same _ _ _ (c .before .loop-test .left) (c .if4 .left))
+returns : tie.Need-returns
+unfolding foldedOrder
+returns c = c .compare-by .ensures
 
 pub compare-folded-spec : {M : Type 1} → statement M
-compare-folded-spec =
-    tie.close
-    (tie.spec
-    Inv-loop
-    μ-loop
-    loop-holds
-    returns
-    shared-slice-read-to-lower
-    to-lower-requires
-    shared-slice-read-to-lower-2
-    to-lower-requires-2
-    returns-2
-    returns-3
-    add-i
-    loop-less
-    loop-again
-    returns-4
-    returns-5)
+compare-folded-spec = tie.close (tie.spec compare-by-requires returns)
