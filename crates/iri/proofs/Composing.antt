@@ -1,0 +1,109 @@
+-- Composing a pack IRI, from what the parts of the code ensure.
+-- Assumes nothing.
+use Prim.Native.Nat.{ℕ, _+_, _≤_, _-_, _<_}
+use mathlib.Core.Path.{_≡_, _∙_, sym}
+use mathlib.Core.Bool.{Bool, not, true, false}
+use mathlib.Core.List.{List, _++_, [], append-nil, append-assoc}
+use native.Mathlib.Nat.{zero-add}
+use native.Mathlib.Omega.{arith}
+use lib.ListN.{length, drop, take, length-drop, drop-of-length-le, length-append}
+use lib.Seq.{drop-append-seam, drop-drop, take-append-seam, length-take-le}
+use borrow.Author.Tests.{not-true, not-false}
+use Rattle.chars.specs.Bytes.{numberSign, ascii}
+use Rattle.chars.specs.Lists.{indexOf}
+use Rattle.chars.proofs.Searches.{take-rest, index-le}
+use Rattle.names.specs.Iris.{packageIri}
+use Rattle.iri.specs.Answers.{No, Text, ofWritten, written}
+use Rattle.iri.specs.Pack.{compose, partOrRoot, escaped, packIri, unfragmented}
+use Rattle.iri.specs.Scratch.{Sent}
+use Rattle.iri.specs.declared.writing.Written.the-variants.{Short, Bytes}
+use Rattle.iri.proofs.Escapes.{escaped-few}
+use Rattle.iri.proofs.Judging.{package-few, part-or-root-few}
+use Rattle.iri.proofs.Sending.{append-none, answer-short, answer-bytes}
+
+-- a text h at the start of an output, and n written into the rest after it
+module _ (h n out o₂ zs : List ℕ) (a m : ℕ) (ea : a ≡ length h) (l : a + length n ≤ length out) (e₂ : o₂ ≡ h ++ drop (length h) out) (s : Sent (take (length o₂ - a) (drop a o₂)) 0 n m zs) where
+  cut : drop a o₂ ≡ drop (length h) out
+  cut = rw (e₂, ea, drop-append-seam h (drop (length h) out))
+
+  rest-is : take (length o₂ - a) (drop a o₂) ≡ drop (length h) out
+  rest-is = take-rest o₂ a ∙ cut
+
+  zs-is : zs ≡ n ++ drop (length h + length n) out
+  zs-is = s .fits (rw (rest-is, length-drop) (omega arith)) ∙ rw (rest-is, zero-add (length n), drop-drop (length n) (length h) out)
+
+  pub seam : take a o₂ ++ (zs ++ drop (length o₂ - a) (drop a o₂)) ≡ (h ++ n) ++ drop (length (h ++ n)) out
+  seam =
+      let g : length (drop a o₂) ≤ length o₂ - a = omega (arith, length-drop a o₂) in
+      let e : drop (length o₂ - a) (drop a o₂) ≡ [] = drop-of-length-le (drop a o₂) g in
+      let t : take a o₂ ≡ h = rw (e₂, ea, take-append-seam h (drop (length h) out)) in
+      rw (e, t, append-nil zs, zs-is, length-append h n, append-assoc h n (drop (length h + length n) out))
+
+module _ (p n : List ℕ) (x : Bool) (ex : x ≡ packageIri p) where
+  pub compose-9 : not x ≡ true → compose p n ≡ No 9
+  unfolding compose
+  compose-9 q = rw (← ex, not-true x q)
+
+  module _ (gx : not x ≡ false) (y : Bool) (ey : y ≡ partOrRoot n) where
+    hx : x ≡ true
+    hx = not-false x gx
+
+    pub compose-4 : not y ≡ true → compose p n ≡ No 4
+    unfolding compose
+    compose-4 q = rw (← ex, hx, ← ey, not-true y q)
+
+    pub package-short : length p ≤ 255
+    package-short = package-few p (sym ex ∙ hx)
+
+    module _ (gy : not y ≡ false) (k : ℕ) (ek : k ≡ 0 + indexOf numberSign p) where
+      hy : y ≡ true
+      hy = not-false y gy
+
+      k-is : k ≡ indexOf numberSign p
+      k-is = omega arith
+
+      pub k-le : k ≤ length p
+      k-le = omega (arith, index-le numberSign p)
+
+      pub head-length : k ≡ length (take k p)
+      head-length = sym (length-take-le k p k-le)
+
+      pub head-short : length (take k p) ≤ 4096
+      head-short = omega (arith, head-length, k-le, package-short)
+
+      pub part-few : length n ≤ 255
+      part-few = part-or-root-few n (sym ey ∙ hy)
+
+      abbrev head : List ℕ
+      head = ascii "pack://" ++ escaped (take k p)
+
+      text-is : compose p n ≡ Text (head ++ n)
+      unfolding compose packIri unfragmented
+      text-is = rw (← ex, hx, ← ey, hy, ← k-is)
+
+      module _ (w ys : List ℕ) (a : ℕ) (s : Sent w 0 head a ys) where
+        pub a-is : a ≡ length head
+        a-is = s .next-is ∙ zero-add (length head)
+
+        pub a-few : a ≤ 20000
+        a-few = omega (arith, a-is, length-append (ascii "pack://") (escaped (take k p)), escaped-few (take k p), head-short)
+
+        need-is : a + length n ≡ length (head ++ n)
+        need-is = rw (length-append head n, a-is)
+
+        module _ (out : List ℕ) (z : length ys ≡ 0) where
+          pub kept-out : ys ++ out ≡ out
+          kept-out = append-none ys out z
+
+          pub compose-short : length (ys ++ out) < a + length n → ofWritten (Short (a + length n)) (ys ++ out) ≡ written (compose p n) out
+          compose-short l = answer-short (compose p n) (head ++ n) out (ys ++ out) (a + length n) text-is need-is (rw kept-out at l) kept-out
+
+          module _ (l : a + length n ≤ length (ys ++ out)) (b : ℕ) (o₂ : List ℕ) (s₂ : Sent (ys ++ out) 0 head b o₂) (m : ℕ) (zs : List ℕ) (s₃ : Sent (take (length o₂ - a) (drop a o₂)) 0 n m zs) where
+            l′ : a + length n ≤ length out
+            l′ = rw kept-out at l
+
+            o₂-is : o₂ ≡ head ++ drop (length head) out
+            o₂-is = s₂ .fits (omega (arith, a-is)) ∙ rw (kept-out, zero-add (length head))
+
+            pub compose-bytes : ofWritten (Bytes (a + length n)) (take a o₂ ++ (zs ++ drop (length o₂ - a) (drop a o₂))) ≡ written (compose p n) out
+            compose-bytes = answer-bytes (compose p n) (head ++ n) out _ (a + length n) text-is need-is l′ (seam head n out o₂ zs a m a-is l′ o₂-is s₃)

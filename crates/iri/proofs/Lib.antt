@@ -1,0 +1,14 @@
+pub mod Lists
+pub mod Sending
+pub mod Splitting
+pub mod DotRules
+pub mod DotTurns
+pub mod Merging
+pub mod Judging
+pub mod Transforms
+pub mod Escapes
+pub mod Decoding
+pub mod Locating
+pub mod Resolving
+pub mod Composing
+pub mod Sources
