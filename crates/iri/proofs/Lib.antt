@@ -12,3 +12,8 @@ pub mod Locating
 pub mod Resolving
 pub mod Composing
 pub mod Sources
+pub mod PartNamePaths
+pub mod Fragments
+pub mod RoundTrip
+pub mod LastBytes
+pub mod BackAndForth
