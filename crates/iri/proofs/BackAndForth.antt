@@ -78,15 +78,26 @@ module _ (f l : List ℕ) (ef : afterLast slash f ≡ length f) (el : afterLast 
   part-reserved : reserved part ≡ true
   unfolding reserved
   part-reserved =
-      rw (folder-is f (ascii "_rels") (l ++ ascii ".rels") ef rels-clear (end-clear l el), folder-segment f (ascii "_rels") (l ++ ascii ".rels") ef rels-clear (end-clear l el),
-      last-segment-is f (ascii "_rels") (l ++ ascii ".rels") ef rels-clear (end-clear l el), ends-in-rels l, equivalent-refl (ascii "_rels"))
+      rw (
+        folder-is f (ascii "_rels") (l ++ ascii ".rels") ef rels-clear (end-clear l el),
+        folder-segment f (ascii "_rels") (l ++ ascii ".rels") ef rels-clear (end-clear l el),
+        last-segment-is f (ascii "_rels") (l ++ ascii ".rels") ef rels-clear (end-clear l el),
+        ends-in-rels l,
+        equivalent-refl (ascii "_rels"),
+      )
 
   part-source : sourceOf part ≡ f ++ l
   unfolding sourceOf
   part-source =
       let n : length (l ++ ascii ".rels") - 5 ≡ length l = omega (arith, length-append l (ascii ".rels")) in
-      rw (folder-is f (ascii "_rels") (l ++ ascii ".rels") ef rels-clear (end-clear l el), folder-last f (ascii "_rels") (l ++ ascii ".rels") ef rels-clear (end-clear l el),
-      last-segment-is f (ascii "_rels") (l ++ ascii ".rels") ef rels-clear (end-clear l el), n, take-append-seam f (ascii "_rels" ++ slash ∷ (l ++ ascii ".rels")), take-append-seam l (ascii ".rels"))
+      rw (
+        folder-is f (ascii "_rels") (l ++ ascii ".rels") ef rels-clear (end-clear l el),
+        folder-last f (ascii "_rels") (l ++ ascii ".rels") ef rels-clear (end-clear l el),
+        last-segment-is f (ascii "_rels") (l ++ ascii ".rels") ef rels-clear (end-clear l el),
+        n,
+        take-append-seam f (ascii "_rels" ++ slash ∷ (l ++ ascii ".rels")),
+        take-append-seam l (ascii ".rels"),
+      )
 
   part-length : length part ≡ length (f ++ l) + 11
   part-length = simp length-append (omega arith)
@@ -122,8 +133,16 @@ module _ (f r m e : List ℕ) (ef : afterLast slash f ≡ length f) (er : equiva
   unfolding lower
   back-equivalent =
       fold-equivalent _ _ (ap fold back-parts
-      ∙ rw (fold-append f (ascii "_rels" ++ slash ∷ (m ++ ascii ".rels")), fold-append (ascii "_rels") (slash ∷ (m ++ ascii ".rels")), fold-append m (ascii ".rels"),
-      fold-append f (r ++ slash ∷ (m ++ e)), fold-append r (slash ∷ (m ++ e)), fold-append m e, equivalent-fold r (ascii "_rels") er, equivalent-fold e (ascii ".rels") ee))
+      ∙ rw (
+        fold-append f (ascii "_rels" ++ slash ∷ (m ++ ascii ".rels")),
+        fold-append (ascii "_rels") (slash ∷ (m ++ ascii ".rels")),
+        fold-append m (ascii ".rels"),
+        fold-append f (r ++ slash ∷ (m ++ e)),
+        fold-append r (slash ∷ (m ++ e)),
+        fold-append m e,
+        equivalent-fold r (ascii "_rels") er,
+        equivalent-fold e (ascii ".rels") ee,
+      ))
 
 -- the parts of a reserved name
 module _ (s : List ℕ) (form : reserved s ≡ true) where

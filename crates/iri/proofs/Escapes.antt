@@ -62,7 +62,7 @@ first-escaped [] n h = omega arith
 first-escaped (b ∷ t) n h = by-value (λ (x : ℕ). cond (eqb x numberSign) 0 (suc (indexOf numberSign t)) ≡ suc (length t) → firstOf (member AuthorityEnd) (escape x ++ escaped t ++ n) ≡ length (escape x ++ escaped t) + firstOf (member AuthorityEnd) n) b numberSign
     (λ e. absurd (omega arith))
     (λ d e. rw (append-assoc (escape b) (escaped t) n, first-one b (escaped t ++ n) d, length-append (escape b) (escaped t))
-        (omega (arith, first-escaped t n (let g : suc (indexOf numberSign t) ≡ suc (length t) = rw (ne-eqb b numberSign d) at e in omega arith)))) h
+    (omega (arith, first-escaped t n (let g : suc (indexOf numberSign t) ≡ suc (length t) = rw (ne-eqb b numberSign d) at e in omega arith)))) h
 
 -- a byte that is replaced, and one that is not
 pub escape-at : (b k : ℕ) → b ≡ k → escape b ≡ escape k

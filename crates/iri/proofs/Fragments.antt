@@ -144,9 +144,9 @@ tiled-front : (s : List ℕ) → tiled (unit Iri) 0 s ≡ true → tiled (unit I
 tiled-front s e = ⊎-elim
     (λ q. rw (q, take-all (length s) s (omega arith)) e)
     (λ l.
-        let d : drop (indexOf numberSign s) s ≡ numberSign ∷ drop (suc (indexOf numberSign s)) s = drop-cons s (indexOf numberSign s) 0 l ∙ ap (λ (x : ℕ). x ∷ drop (suc (indexOf numberSign s)) s) (at-index numberSign s l) in
-        let w : s ≡ take (indexOf numberSign s) s ++ numberSign ∷ drop (suc (indexOf numberSign s)) s = sym (take-append-drop (indexOf numberSign s) s) ∙ ap (λ (t : List ℕ). take (indexOf numberSign s) s ++ t) d in
-        tiled-before numberSign no-hex no-on no-hex-0 no-on-0 0 (take (indexOf numberSign s) s) (drop (suc (indexOf numberSign s)) s) (omega arith) (sym (ap (tiled (unit Iri) 0) w) ∙ e))
+    let d : drop (indexOf numberSign s) s ≡ numberSign ∷ drop (suc (indexOf numberSign s)) s = drop-cons s (indexOf numberSign s) 0 l ∙ ap (λ (x : ℕ). x ∷ drop (suc (indexOf numberSign s)) s) (at-index numberSign s l) in
+    let w : s ≡ take (indexOf numberSign s) s ++ numberSign ∷ drop (suc (indexOf numberSign s)) s = sym (take-append-drop (indexOf numberSign s) s) ∙ ap (λ (t : List ℕ). take (indexOf numberSign s) s ++ t) d in
+    tiled-before numberSign no-hex no-on no-hex-0 no-on-0 0 (take (indexOf numberSign s) s) (drop (suc (indexOf numberSign s)) s) (omega arith) (sym (ap (tiled (unit Iri) 0) w) ∙ e))
     (eq-or-lt-of-le (index-le numberSign s))
 
 -- where a scheme is, its colon stands before the number sign
@@ -163,9 +163,9 @@ module _ (p : List ℕ) (h : packageIri p ≡ true) where
   early : firstOf (member SchemeEnd) p < indexOf numberSign p
   early = ⊎-elim
       (λ q. ⊎-elim
-          (λ l. absurd (let z : getD p (firstOf (member SchemeEnd) p) 0 ≡ 0 = List·getD-eq-default p 0 (let a : length p ≤ firstOf (member SchemeEnd) p = omega arith in a) in omega (arith, colon-at)))
-          (λ l. absurd (let z : getD p (indexOf numberSign p) 0 ≡ numberSign = at-index numberSign p l in let y : getD p (indexOf numberSign p) 0 ≡ colon = ap (λ (i : ℕ). getD p i 0) (sym q) ∙ colon-at in omega arith))
-          (eq-or-lt-of-le (index-le numberSign p)))
+      (λ l. absurd (let z : getD p (firstOf (member SchemeEnd) p) 0 ≡ 0 = List·getD-eq-default p 0 (let a : length p ≤ firstOf (member SchemeEnd) p = omega arith in a) in omega (arith, colon-at)))
+      (λ l. absurd (let z : getD p (indexOf numberSign p) 0 ≡ numberSign = at-index numberSign p l in let y : getD p (indexOf numberSign p) 0 ≡ colon = ap (λ (i : ℕ). getD p i 0) (sym q) ∙ colon-at in omega arith))
+      (eq-or-lt-of-le (index-le numberSign p)))
       (λ l. l)
       (eq-or-lt-of-le (first-before p))
 

@@ -55,6 +55,5 @@ module _ (a : Bool) (base r o o₁ : List ℕ) (n : ℕ) (s : Sent o 0 (mergedPa
   reached k out' l d =
       record {
         text = d .text ∙ ap removeDotSegments (sent-text o o₁ (mergedPath a base r) n s l);
-        few = omega (arith, d .few, length-take-le-length n o₁, n-few, ap length (sent-text o o₁ (mergedPath a base r) n s l), s .next-is)
+        few = omega (arith, d .few, length-take-le-length n o₁, n-few, ap length (sent-text o o₁ (mergedPath a base r) n s l), s .next-is);
       }
-

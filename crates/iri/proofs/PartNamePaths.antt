@@ -182,4 +182,3 @@ module _ (n : List ℕ) (h : partName n ≡ true) where
       go : (m : List ℕ) → getD m 0 0 ≡ slash → every clean (drop 1 m) ≡ true → every clean m ≡ true
       go [] e f = refl
       go (x ∷ m) e f = and-true (clean x) (every clean m) (rw e) f
-

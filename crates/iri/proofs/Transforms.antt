@@ -72,6 +72,7 @@ module _ (base r : List ℕ) (b x : Parts) (h : Taken base r b x) where
     where
       own : schemeOf base ++ authorityOf base ≡ take (b .authority) base
       own = rw (← (h .base-is .scheme), ← (h .base-is .authority)) (take-append-part base (b .scheme) (b .authority) (h .base-is .a-le))
+
       go : (t : Bool) → none (pathOf r) ≡ t → (target base r) .scheme ++ (target base r) .authority ≡ take (b .authority) base
       go true e = rw (scheme-none (no-scheme y), authority-none y, e) own
       go false e = rw (scheme-none (no-scheme y), authority-none y, e) own

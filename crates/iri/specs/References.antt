@@ -38,14 +38,14 @@ rulePick false r s = s
 
 unfoldable pub rule : List ℕ → Rule
 rule i =
-    rulePick (begins (ascii "../") i) (Skip 3) -- A: "remove that prefix"
+    rulePick (begins (ascii "../") i) (Skip 3)  -- A: "remove that prefix"
     (rulePick (begins (ascii "./") i) (Skip 2)
-    (rulePick (begins (ascii "/./") i) (Skip 2) -- B: "replace that prefix with "/""
+    (rulePick (begins (ascii "/./") i) (Skip 2)  -- B: "replace that prefix with "/""
     (rulePick (same i (ascii "/.")) Root
-    (rulePick (begins (ascii "/../") i) (Up 3) -- C: the same, and remove the last segment from the output
+    (rulePick (begins (ascii "/../") i) (Up 3)  -- C: the same, and remove the last segment from the output
     (rulePick (same i (ascii "/..")) UpRoot
-    (rulePick (same i (ascii ".") || same i (ascii "..")) Finish -- D: "remove that from the input buffer"
-    (Copy (firstSegment i)))))))) -- E: "move the first path segment .. to the end of the output buffer"
+    (rulePick (same i (ascii ".") || same i (ascii "..")) Finish  -- D: "remove that from the input buffer"
+    (Copy (firstSegment i))))))))  -- E: "move the first path segment .. to the end of the output buffer"
 
 -- `folder`: "remove the last segment and its preceding "/" (if any) from the output buffer"
 unfoldable pub turn : Rule → List ℕ → List ℕ → Buffers

@@ -134,7 +134,7 @@ loop-less-3 : tie.Need-loop-less-3 Inv-loop μ-loop
 loop-less-3 c = let f = fits-copy (c .before .before .before .before .before .before .before .before .before .before .before .before .before .before .args .s .now) (c .before .before .before .before .before .before .before .before .before .before .before .loop .out) (c .before .before .before .before .before .before .before .before .before .before .before .loop .i) (c .before .before .before .before .before .before .before .before .before .before .before .loop .o) (c .before .before .before .before .before .before .before .before .before .before .loop-test .taken) _ (c .before .before .before .before .before .before .before .before .rule .ensures) _ (c .before .before .before .before .before .before .m3 .given .1) in omega arith
 
 loop-again-3 : tie.Need-loop-again-3 Inv-loop μ-loop
-loop-again-3 c = 
+loop-again-3 c =
     let i = c .before .before .before .before .before .before .before .before .before .before .before .loop .i in
     let n = c .before .before .before .before .before .before .m3 .given .0 .0 in
     let s = c .before .before .before .before .before .before .before .before .before .before .before .before .before .before .args .s .now in

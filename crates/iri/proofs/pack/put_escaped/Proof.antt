@@ -36,7 +36,7 @@ loop-less : tie.Need-loop-less Inv-loop μ-loop
 loop-less c = search needs
 
 loop-again : tie.Need-loop-again Inv-loop μ-loop
-loop-again c = 
+loop-again c =
     let w = c .before .before .before .before .before .before .loop in
     let h = now (c .before .before .before .before .before .before .before .before .before .args .s) in
     let s = c .before .before .put-escape in
@@ -51,7 +51,7 @@ same-length : tie.Need-same-length Inv-loop μ-loop
 same-length c = search needs
 
 returns : tie.Need-returns Inv-loop μ-loop
-returns c = 
+returns c =
     let w = c .before .loop in
     let h = now (c .before .before .before .before .args .s) in
     let e : take (w .i) h ≡ h = take-all (w .i) h (search needs) in
