@@ -16,11 +16,12 @@ use Rattle.chars.specs.declared.search.Alphabet.the-variants.{PathEnd, Authorit
 use Rattle.chars.proofs.Equivalence.{same-eq}
 use Rattle.names.specs.Iris.{colonFirst, packageIri}
 use Rattle.names.specs.Names.{partName}
+use Rattle.names.proofs.NameBytes.{name-slash}
 use Rattle.iri.specs.Components.{schemeOf, schemeLength, afterScheme, authorityLength, authorityOf, afterAuthority, pathOf, afterPath, queryOf, fragmentOf}
 use Rattle.iri.specs.Pack.{partOrRoot, packageOf, resolvePack, Found, partOf, packForm, unfragmented, unfragmentedIri, PackIrisReturn, packIri, escaped}
 use Rattle.iri.proofs.Escapes.{decode-escaped, escaped-few, first-escaped}
 use Rattle.iri.proofs.Fragments.{before-size, before-index, before-package, before-lacks}
-use Rattle.iri.proofs.PartNamePaths.{name-slash, name-path}
+use Rattle.iri.proofs.PartNamePaths.{name-path}
 
 -- a part name or / begins with a slash, and is a path to its end
 root-slash : (n : List ℕ) → partOrRoot n ≡ true → getD n 0 0 ≡ slash
