@@ -50,6 +50,14 @@ iri-few s e =
     let l = lacks numberSign (drop (indexOf numberSign s + 1) s) in
     leb-true (length s) 255 (and-right (leb 1 (length s)) (leb (length s) 255) (and-left w t (and-left (w && t) l (and-left (w && t && l) (not (colonFirst s) || scheme (take (schemeEnd s) s)) e))))
 
+pub iri-some : (s : List ℕ) → iri s ≡ true → 1 ≤ length s
+unfolding iri
+iri-some s e =
+    let w = within 1 255 (length s) in
+    let t = tiled (unit Iri) 0 s in
+    let l = lacks numberSign (drop (indexOf numberSign s + 1) s) in
+    leb-true 1 (length s) (and-left (leb 1 (length s)) (leb (length s) 255) (and-left w t (and-left (w && t) l (and-left (w && t && l) (not (colonFirst s) || scheme (take (schemeEnd s) s)) e))))
+
 pub package-few : (s : List ℕ) → packageIri s ≡ true → length s ≤ 255
 unfolding packageIri
 package-few s e = iri-few s (and-left (iri s) (colonFirst s) e)

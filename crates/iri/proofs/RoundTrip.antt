@@ -1,27 +1,32 @@
 -- Demand 2: composing a pack IRI and resolving it gives the package IRI without its fragment, and the part name.
 -- Assumes nothing.
 use Prim.Native.Nat.{ℕ, suc, _≤_}
-use mathlib.Core.Path.{_≡_, refl, _∙_}
-use mathlib.Core.Bool.{true, Bool, _||_, false}
-use mathlib.Core.List.{List, [], _∷_, _++_}
+use mathlib.Core.Path.{_≡_, refl, _∙_, sym}
+use mathlib.Core.Bool.{true, Bool, _||_, false, _&&_}
+use mathlib.Core.List.{List, [], _∷_, _++_, append-nil}
 use native.Mathlib.Omega.{arith}
 use lib.Dec.{eqb}
 use lib.ListN.{getD, length}
 use lib.Seq.{take-append-seam, drop-append-seam, take-length, drop-length}
-use borrow.Author.Tests.{le-leb, ne-eqb}
+use borrow.Author.Tests.{le-leb, ne-eqb, eqb-true}
 use Rattle.chars.specs.Bytes.{slash, ascii, member, numberSign}
 use Rattle.chars.specs.Folding.{equivalent, lower}
-use Rattle.chars.specs.Lists.{same, firstOf, lacks}
+use Rattle.chars.specs.Lists.{same, firstOf, lacks, none}
 use Rattle.chars.specs.declared.search.Alphabet.the-variants.{PathEnd, AuthorityEnd}
+use Rattle.chars.proofs.Bools.{and-right, and-left}
 use Rattle.chars.proofs.Equivalence.{same-eq}
-use Rattle.names.specs.Iris.{colonFirst, packageIri}
+use Rattle.names.specs.Iris.{colonFirst, packageIri, iri}
 use Rattle.names.specs.Names.{partName}
 use Rattle.names.proofs.NameBytes.{name-slash}
-use Rattle.iri.specs.Components.{schemeOf, schemeLength, afterScheme, authorityLength, authorityOf, afterAuthority, pathOf, afterPath, queryOf, fragmentOf}
-use Rattle.iri.specs.Pack.{partOrRoot, packageOf, resolvePack, Found, partOf, packForm, unfragmented, unfragmentedIri, PackIrisReturn, packIri, escaped}
+use Rattle.iri.specs.Components.{schemeOf, schemeLength, afterScheme, authorityLength, authorityOf, afterAuthority, pathOf, afterPath, queryOf, fragmentOf, recompose}
+use Rattle.iri.specs.Pack.{partOrRoot, packageOf, resolvePack, Found, partOf, packForm, unfragmented, unfragmentedIri, PackIrisReturn, packIri, escaped, TargetsResolve}
+use Rattle.iri.specs.References.{resolve, transform, relativePath}
+use Rattle.iri.specs.Targets.{resolvePath, internal}
 use Rattle.iri.proofs.Escapes.{decode-escaped, escaped-few, first-escaped}
 use Rattle.iri.proofs.Fragments.{before-size, before-index, before-package, before-lacks}
+use Rattle.iri.proofs.Judging.{iri-some}
 use Rattle.iri.proofs.PartNamePaths.{name-path}
+use Rattle.iri.proofs.Splitting.{components-return}
 
 -- a part name or / begins with a slash, and is a path to its end
 root-slash : (n : List ℕ) → partOrRoot n ≡ true → getD n 0 0 ≡ slash
@@ -105,3 +110,65 @@ pack-iris-return p n hp hn =
         → resolvePack (ascii "pack://" ++ (a ++ n)) ≡ Found (unfragmented p) (partOf n)
     go a d l f g =
         resolved-as (s a n f g) a n (unfragmented p) (scheme-is a n f g) (authority-is a n f g) (path-is a n f g) (query-is a n f g) (fragment-is a n f g) d (before-package p hp) (before-lacks p hp) l hn
+
+-- a path resolved against a base with an authority
+resolved-path : (b a n t : List ℕ) → schemeOf b ≡ ascii "pack:" → authorityOf b ≡ slash ∷ slash ∷ a → pathOf b ≡ n
+    → schemeOf t ≡ [] → authorityOf t ≡ [] → pathOf t ≡ t → none t ≡ false → queryOf t ≡ [] → fragmentOf t ≡ []
+    → resolve b t ≡ ascii "pack://" ++ (a ++ resolvePath n t)
+unfolding resolve recompose transform resolvePath
+resolved-path b a n t e1 e2 e3 e4 e5 e6 e7 e8 e9 =
+    rw (e4, e5, e6, e7, e8, e9, e1, e2, e3, ne-eqb (suc (suc (length a))) 0 (λ q. absurd (omega arith)), append-nil (relativePath true n t))
+
+-- an internal target is a path
+none-nil : (l : List ℕ) → none l ≡ true → l ≡ []
+none-nil [] e = refl
+none-nil (x ∷ l) e = absurd (omega (arith, eqb-true (suc (length l)) 0 e))
+
+module _ (t : List ℕ) (h : internal t ≡ true) where
+  abbrev A : Bool
+  A = none (schemeOf t)
+
+  abbrev B : Bool
+  B = none (authorityOf t)
+
+  abbrev C : Bool
+  C = none (queryOf t)
+
+  abbrev D : Bool
+  D = none (fragmentOf t)
+
+  fragment-none : fragmentOf t ≡ []
+  unfolding internal
+  fragment-none = none-nil (fragmentOf t) (and-right (iri t && A && B && C) D h)
+
+  query-none : queryOf t ≡ []
+  unfolding internal
+  query-none = none-nil (queryOf t) (and-right (iri t && A && B) C (and-left (iri t && A && B && C) D h))
+
+  authority-none : authorityOf t ≡ []
+  unfolding internal
+  authority-none = none-nil (authorityOf t) (and-right (iri t && A) B (and-left (iri t && A && B) C (and-left (iri t && A && B && C) D h)))
+
+  scheme-none : schemeOf t ≡ []
+  unfolding internal
+  scheme-none = none-nil (schemeOf t) (and-right (iri t) A (and-left (iri t && A) B (and-left (iri t && A && B) C (and-left (iri t && A && B && C) D h))))
+
+  path-whole : pathOf t ≡ t
+  unfolding recompose
+  path-whole =
+      let e : schemeOf t ++ (authorityOf t ++ (pathOf t ++ (queryOf t ++ fragmentOf t))) ≡ t = components-return t in
+      sym (append-nil (pathOf t)) ∙ (rw (scheme-none, authority-none, query-none, fragment-none) at e)
+
+  path-some : none t ≡ false
+  unfolding internal
+  path-some = ne-eqb (length t) 0 (λ z. absurd (omega (arith, iri-some t (and-left (iri t) A (and-left (iri t && A) B (and-left (iri t && A && B) C (and-left (iri t && A && B && C) D h)))))))
+
+pub targets-resolve : TargetsResolve
+unfolding packIri
+targets-resolve p n t hp hn ht =
+    go (escaped (unfragmented p))
+    (first-escaped (unfragmented p) n (before-index p hp) ∙ rw (slash-first n (root-slash n hn)) (omega arith)) (root-path n hn)
+  where
+    go : (a : List ℕ) → firstOf (member AuthorityEnd) (a ++ n) ≡ length a → firstOf (member PathEnd) n ≡ length n
+        → resolve (ascii "pack://" ++ (a ++ n)) t ≡ ascii "pack://" ++ (a ++ resolvePath n t)
+    go a f g = resolved-path (s a n f g) a n t (scheme-is a n f g) (authority-is a n f g) (path-is a n f g) (scheme-none t ht) (authority-none t ht) (path-whole t ht) (path-some t ht) (query-none t ht) (fragment-none t ht)

@@ -6,7 +6,7 @@ use mathlib.Core.Bool.{false, not, Bool, cond, _&&_, true}
 use mathlib.Core.List.{List}
 use native.Mathlib.Omega.{arith}
 use lib.Dec.{eqb}
-use lib.ListN.{getD, length, take, drop, length-drop}
+use lib.ListN.{getD, length, take, drop, length-drop, take-append-drop}
 use lib.Seq.{drop-drop, length-take-le}
 use borrow.Author.Tests.{eq-eqb, ne-eqb, eqb-true, eqb-false}
 use Rattle.chars.specs.Bytes.{colon, slash, member, numberSign}
@@ -16,7 +16,7 @@ use Rattle.chars.proofs.Bools.{and-false}
 use Rattle.chars.proofs.Searches.{take-rest, first-le, index-le}
 use Rattle.chars.proofs.UnitLengths.{passes-lt}
 use Rattle.names.specs.Iris.{schemeEnd, colonFirst}
-use Rattle.iri.specs.Components.{schemeLength, authorityLength, afterScheme, afterAuthority, pathLength, afterPath, SplitAt, schemeOf, authorityOf, pathOf, queryOf, fragmentOf}
+use Rattle.iri.specs.Components.{schemeLength, authorityLength, afterScheme, afterAuthority, pathLength, afterPath, SplitAt, schemeOf, authorityOf, pathOf, queryOf, fragmentOf, ComponentsReturn, recompose}
 
 -- a byte that is not 0 lies within s
 pub byte-lt : (s : List ℕ) (k x b : ℕ) → eqb 0 b ≡ false → x ≡ getD s k 0 → x ≡ b → k < length s
@@ -172,3 +172,12 @@ module _ (s : List ℕ) (a b p q : ℕ) (h : SplitAt s a b p q) where
           no : (u : Bool) → eqb (q - p) 0 ≡ u → (u && eqb (length s - q) 0) ≡ false
           no true f = let y : q - p ≡ 0 = eqb-true (q - p) 0 f in ne-eqb (length s - q) 0 (λ z. eqb-false p (length s) e (omega arith))
           no false f = refl
+
+-- the five components, one after the other
+pub components-return : ComponentsReturn
+unfolding recompose schemeOf authorityOf pathOf queryOf fragmentOf afterPath afterAuthority afterScheme
+components-return s =
+    let a = drop (schemeLength s) s in
+    let b = drop (authorityLength a) a in
+    let c = drop (pathLength b) b in
+    rw (take-append-drop (indexOf numberSign c) c, take-append-drop (pathLength b) b, take-append-drop (authorityLength a) a) (take-append-drop (schemeLength s) s)

@@ -93,3 +93,7 @@ pub record SplitAt (s : List ℕ) (a b p q : ℕ) : Type 0 where
 -- RFC 3986, 5.3
 unfoldable pub recompose : Components → List ℕ
 recompose c = c .scheme ++ (c .authority ++ (c .path ++ (c .query ++ c .fragment)))
+
+-- "the five, one after the other, are the IRI"
+abbrev pub ComponentsReturn : Type 0
+ComponentsReturn = (s : List ℕ) → recompose (components s) ≡ s

@@ -13,6 +13,8 @@ use Rattle.chars.specs.Folding.{equivalent}
 use Rattle.names.specs.Names.{partName}
 use Rattle.names.specs.Iris.{packageIri}
 use Rattle.iri.specs.Components.{question, comma, atSign, defined, schemeOf, authorityOf, pathOf, queryOf, fragmentOf}
+use Rattle.iri.specs.References.{resolve}
+use Rattle.iri.specs.Targets.{internal, resolvePath}
 use Rattle.iri.specs.Answers.{Outcome, Text, unless, Answer, answer}
 use Rattle.iri.specs.declared.pack.Resolved.{Resolved}
 use Rattle.iri.specs.declared.pack.Resolved.the-variants as resolved
@@ -103,6 +105,12 @@ resolvePack s =
 -- Demand 2: composing a pack IRI and resolving it gives the package IRI without its fragment, and the part name.
 abbrev pub PackIrisReturn : Type 0
 PackIrisReturn = (p n : List ℕ) → packageIri p ≡ true → partOrRoot n ≡ true → resolvePack (packIri p n) ≡ Found (unfragmented p) (partOf n)
+
+-- An internal target, resolved by RFC 3986 against the pack IRI of its source, is the pack IRI of the path resolved from that source.
+abbrev pub TargetsResolve : Type 0
+TargetsResolve =
+    (p source target : List ℕ) → packageIri p ≡ true → partOrRoot source ≡ true → internal target ≡ true
+    → resolve (packIri p source) target ≡ packIri p (resolvePath source target)
 
 -- document 01's number and values for each case of `Resolved`
 abbrev pub ofResolved : Resolved → List ℕ → Answer
