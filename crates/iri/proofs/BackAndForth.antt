@@ -18,8 +18,9 @@ use Rattle.chars.proofs.Searches.{last-le}
 use Rattle.names.specs.Names.{lastSegment, folder, reserved}
 use Rattle.names.proofs.Reserved.{second-le}
 use Rattle.iri.specs.Answers.{Text, unless}
-use Rattle.iri.specs.Relationships.{sourceOf, sourcePart, BackOfForth, relationshipsOf, ForthOfBack}
+use Rattle.iri.specs.Relationships.{sourceOf, sourcePart, BackOfForth, relationshipsOf, ForthOfBack, BackOfEquivalent}
 use Rattle.iri.specs.Targets.{sourceRefusal}
+use Rattle.iri.proofs.FoldedNames.{fold-append, equivalent-length, equivalent-reserved, equivalent-sources, equivalent-back}
 use Rattle.iri.proofs.Judging.{source-few}
 use Rattle.iri.proofs.LastBytes.{last-append, last-append-none, last-take, last-drop, last-snoc-take, last-take-none}
 use Rattle.iri.proofs.Sources.{last-slash}
@@ -115,10 +116,6 @@ back-of-forth s h =
     part-back (take (afterLast slash s) s) (lastSegment s) (last-take slash s ∙ sym n) (last-drop slash s) s (take-append-drop (afterLast slash s) s) h
 
 -- forth of back
-fold-append : (a b : List ℕ) → fold (a ++ b) ≡ fold a ++ fold b
-fold-append [] b = refl
-fold-append (x ∷ a) b = ap (λ (l : List ℕ). lower x ∷ l) (fold-append a b)
-
 text-is : (c : Bool) (t x : List ℕ) → unless c 4 (Text t) ≡ Text x → (c ≡ true) × (t ≡ x)
 text-is true t x e = (refl, cc)
 text-is false t x e = let z : _≡_ {A = ℕ} 0 1 = cc in absurd (omega arith)
@@ -204,3 +201,17 @@ forth-of-back s x e =
     let b = eqb (sourceRefusal (sourceOf s)) 0 in
     let h = text-is (a && reserved s && b) (sourceOf s) x e in
     subst (λ (l : List ℕ). equivalent (relationshipsOf l) s ≡ true) (h .1) (source-forth s (and-right a (reserved s) (and-left (a && reserved s) b (h .0))))
+
+-- every name that is equivalent to one that a source gives
+pub back-of-equivalent : BackOfEquivalent
+unfolding sourcePart
+back-of-equivalent s x h e =
+    let n = relationshipsOf x in
+    let f : fold s ≡ fold (relationshipsOf x) = equivalent-fold s (relationshipsOf x) e in
+    let a = leb (length (relationshipsOf x)) 266 in
+    let b = eqb (sourceRefusal (sourceOf (relationshipsOf x))) 0 in
+    let t = text-is (a && reserved (relationshipsOf x) && b) (sourceOf (relationshipsOf x)) x (back-of-forth x h) in
+    (
+      rw (equivalent-length s (relationshipsOf x) f, equivalent-reserved s (relationshipsOf x) f, equivalent-sources (sourceOf s) (sourceOf (relationshipsOf x)) (equivalent-back s (relationshipsOf x) f), t .0),
+      fold-equivalent (sourceOf s) x (equivalent-back s (relationshipsOf x) f ∙ ap fold (t .1)),
+    )

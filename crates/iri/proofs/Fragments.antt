@@ -11,7 +11,7 @@ use lib.Dec.{eqb}
 use lib.ListN.{getD, length, take, drop, take-append-drop, List·getD-eq-default, drop-of-length-le}
 use lib.Seq.{take-all, drop-cons, length-take-le, getD-take, take-take}
 use borrow.Author.Tests.{eqb-true, ne-eqb, eq-eqb, le-leb}
-use Rattle.chars.specs.Bytes.{hexDigit, continuation, lead3, lead4, percent, member, numberSign, colon, slash, digit, within}
+use Rattle.chars.specs.Bytes.{continuation, lead3, lead4, hexDigit, percent, member, numberSign, colon, slash, digit, within}
 use Rattle.chars.specs.Characters.{char2, char3, char4, longUnit, unit, single}
 use Rattle.chars.specs.Lists.{tiled, indexOf, firstOf, lacks}
 use Rattle.chars.specs.declared.search.Alphabet.the-variants.{SchemeEnd}
@@ -25,43 +25,45 @@ use Rattle.iri.specs.Pack.{unfragmented}
 use Rattle.iri.proofs.Escapes.{by-value}
 use Rattle.iri.proofs.Judging.{package-few}
 
--- a byte that is neither a hexadecimal digit nor goes on a character ends a unit: what follows it does not count
-module _ (z : ℕ) (h : hexDigit z ≡ false) (g : continuation z ≡ false) where
-  stop2 : (a : ℕ) → char2 a z ≡ false
+-- a byte that does not go on a character ends it
+module _ (z : ℕ) (g : continuation z ≡ false) where
+  pub stop2 : (a : ℕ) → char2 a z ≡ false
   unfolding char2
   stop2 a = rw (g, and-false)
 
-  stop3 : (a c : ℕ) → char3 a z c ≡ false
+  pub stop3 : (a c : ℕ) → char3 a z c ≡ false
   unfolding char3
   stop3 a c = rw (g, and-false)
 
-  stop3′ : (a b : ℕ) → char3 a b z ≡ false
+  pub stop3′ : (a b : ℕ) → char3 a b z ≡ false
   unfolding char3
   stop3′ a b = rw (g, and-false (lead3 a && continuation b))
 
-  stop4 : (a c d : ℕ) → char4 a z c d ≡ false
+  pub stop4 : (a c d : ℕ) → char4 a z c d ≡ false
   unfolding char4
   stop4 a c d = rw (g, and-false)
 
-  stop4′ : (a b d : ℕ) → char4 a b z d ≡ false
+  pub stop4′ : (a b d : ℕ) → char4 a b z d ≡ false
   unfolding char4
   stop4′ a b d = rw (g, and-false (lead4 a && continuation b))
 
-  stop4″ : (a b c : ℕ) → char4 a b c z ≡ false
+  pub stop4″ : (a b c : ℕ) → char4 a b c z ≡ false
   unfolding char4
   stop4″ a b c = rw (g, and-false (lead4 a && continuation b && continuation c))
 
+-- nor does what follows it count, where it is no hexadecimal digit
+module _ (z : ℕ) (h : hexDigit z ≡ false) (g : continuation z ≡ false) where
   first : (a c d : ℕ) → longUnit Iri a z c d ≡ 0
   unfolding longUnit
-  first a c d = rw (h, and-false (eqb a percent), stop2 a, stop3 a c, stop4 a c d)
+  first a c d = rw (h, and-false (eqb a percent), stop2 z g a, stop3 z g a c, stop4 z g a c d)
 
   second : (a b d : ℕ) → longUnit Iri a b z d ≡ cond (char2 a b) 2 0
   unfolding longUnit
-  second a b d = rw (h, and-false (hexDigit b), and-false (eqb a percent), stop3′ a b, stop4′ a b d)
+  second a b d = rw (h, and-false (hexDigit b), and-false (eqb a percent), stop3′ z g a b, stop4′ z g a b d)
 
   third : (a b c : ℕ) → longUnit Iri a b c z ≡ cond (eqb a percent && (hexDigit b && hexDigit c)) 3 (cond (char2 a b) 2 (cond (char3 a b c) 3 0))
   unfolding longUnit
-  third a b c = rw (stop4″ a b c)
+  third a b c = rw (stop4″ z g a b c)
 
 module _ (z : ℕ) (h : hexDigit z ≡ false) (g : continuation z ≡ false) (h0 : hexDigit 0 ≡ false) (g0 : continuation 0 ≡ false) where
   unit-before : (a : ℕ) (t r : List ℕ) → unit Iri (a ∷ t ++ z ∷ r) ≡ unit Iri (a ∷ t)

@@ -16,4 +16,6 @@ pub mod PartNamePaths
 pub mod Fragments
 pub mod RoundTrip
 pub mod LastBytes
+pub mod Foldings
+pub mod FoldedNames
 pub mod BackAndForth

@@ -34,3 +34,8 @@ BackOfForth = (s : List ℕ) → sourceRefusal s ≡ 0 → sourcePart (relations
 
 abbrev pub ForthOfBack : Type 0
 ForthOfBack = (s x : List ℕ) → sourcePart s ≡ Text x → equivalent (relationshipsOf x) s ≡ true
+
+-- "4 if the name is equivalent to none that a source gives": every other one goes back, to an equivalent source
+abbrev pub BackOfEquivalent : Type 0
+BackOfEquivalent =
+    (s x : List ℕ) → sourceRefusal x ≡ 0 → equivalent s (relationshipsOf x) ≡ true → (sourcePart s ≡ Text (sourceOf s)) × (equivalent (sourceOf s) x ≡ true)
