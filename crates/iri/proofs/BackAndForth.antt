@@ -8,7 +8,7 @@ use native.Mathlib.Omega.{arith}
 use lib.Dec.{leb, eqb}
 use lib.ListN.{length, length-append, drop, take, take-append-drop}
 use lib.Seq.{drop-append-add, take-append-seam, drop-append-seam, length-take-le, take-take}
-use borrow.Author.Tests.{le-leb}
+use borrow.Author.Tests.{le-leb, eqb-true}
 use Rattle.chars.specs.Bytes.{slash, ascii}
 use Rattle.chars.specs.Folding.{fold, endsIn, equivalent, lower}
 use Rattle.chars.specs.Lists.{afterLast}
@@ -200,7 +200,9 @@ forth-of-back s x e =
     let a = leb (length s) 266 in
     let b = eqb (sourceRefusal (sourceOf s)) 0 in
     let h = text-is (a && reserved s && b) (sourceOf s) x e in
-    subst (λ (l : List ℕ). equivalent (relationshipsOf l) s ≡ true) (h .1) (source-forth s (and-right a (reserved s) (and-left (a && reserved s) b (h .0))))
+    let r : reserved s ≡ true = and-right a (reserved s) (and-left (a && reserved s) b (h .0)) in
+    let k : sourceRefusal (sourceOf s) ≡ 0 = eqb-true (sourceRefusal (sourceOf s)) 0 (and-right (a && reserved s) b (h .0)) in
+    subst (λ (l : List ℕ). (sourceRefusal l ≡ 0) × (equivalent (relationshipsOf l) s ≡ true)) (h .1) (k, source-forth s r)
 
 -- every name that is equivalent to one that a source gives
 pub back-of-equivalent : BackOfEquivalent

@@ -28,12 +28,12 @@ sourceOf s = take (afterLast slash (folder s)) s ++ take (length (lastSegment s)
 unfoldable pub sourcePart : List ℕ → Outcome
 sourcePart s = unless (leb (length s) 266 && reserved s && eqb (sourceRefusal (sourceOf s)) 0) 4 (Text (sourceOf s))
 
--- back of forth is the source; forth of back is equivalent to the name
+-- back of forth is the source; what back answers is a source, and forth of it is equivalent to the name
 abbrev pub BackOfForth : Type 0
 BackOfForth = (s : List ℕ) → sourceRefusal s ≡ 0 → sourcePart (relationshipsOf s) ≡ Text s
 
 abbrev pub ForthOfBack : Type 0
-ForthOfBack = (s x : List ℕ) → sourcePart s ≡ Text x → equivalent (relationshipsOf x) s ≡ true
+ForthOfBack = (s x : List ℕ) → sourcePart s ≡ Text x → (sourceRefusal x ≡ 0) × (equivalent (relationshipsOf x) s ≡ true)
 
 -- "4 if the name is equivalent to none that a source gives": every other one goes back, to an equivalent source
 abbrev pub BackOfEquivalent : Type 0
