@@ -67,7 +67,7 @@ fn chopped(s: &[u8]) -> usize
 }
 
 // Writes the path s without its dot segments to the start of out, and says how many bytes that are. What follows them in out is scratch.
-pub fn remove_dots(s: &[u8], out: &mut [u8]) -> usize
+pub(crate) fn remove_dots(s: &[u8], out: &mut [u8]) -> usize
     requires { ⌜ (length (now s) ≤ length (now out)) × (length (now s) ≤ 4096) ⌝ }
     ensures { λ r. ⌜ Removed (now (s .entry)) r (now (out .exit)) ⌝ }
 {

@@ -70,7 +70,7 @@ fn put_escaped(s: &[u8], out: &mut [u8], from: usize) -> usize
 }
 
 // pack:// and the authority, from a package IRI without its fragment.
-pub fn put_authority(p: &[u8], out: &mut [u8]) -> usize
+fn put_authority(p: &[u8], out: &mut [u8]) -> usize
     requires { ⌜ length (now p) ≤ 4096 ⌝ }
     ensures { λ r. ⌜ Sent (now (out .entry)) 0 (ascii "pack://" ++ escaped (now (p .entry))) r (now (out .exit)) ⌝ }
 {
@@ -79,7 +79,7 @@ pub fn put_authority(p: &[u8], out: &mut [u8]) -> usize
 }
 
 // The path, into the rest of the output.
-pub fn put_path(path: &[u8], rest: &mut [u8])
+fn put_path(path: &[u8], rest: &mut [u8])
     requires { ⌜ length (now path) ≤ 65536 ⌝ }
     ensures { λ _. ⌜ Sent (now (rest .entry)) 0 (now (path .entry)) (length (now (path .entry))) (now (rest .exit)) ⌝ }
 {

@@ -35,7 +35,7 @@ fn merge(authority: bool, base: &[u8], r: &[u8], out: &mut [u8]) -> usize
 }
 
 // Writes the path of r from the base path to the start of out, and says its length. What follows it in out is scratch.
-pub fn relative_path(authority: bool, base: &[u8], r: &[u8], out: &mut [u8]) -> usize
+pub(crate) fn relative_path(authority: bool, base: &[u8], r: &[u8], out: &mut [u8]) -> usize
     requires { ⌜ (length (now base) ≤ 255) × (length (now r) ≤ 255) × (512 ≤ length (now out)) ⌝ }
     ensures { λ k. ⌜ Reached authority (now (base .entry)) (now (r .entry)) k (now (out .exit)) ⌝ }
 {

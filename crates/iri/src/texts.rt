@@ -3,7 +3,7 @@ ghost use mathlib.Core.Path.{_≡_};
 ghost use Rattle.chars.specs.Bytes.{ascii};
 ghost use Rattle.chars.specs.Lists.{same, begins as beginsWith};
 
-pub fn is_same(a: &[u8], b: &[u8]) -> bool
+pub(crate) fn is_same(a: &[u8], b: &[u8]) -> bool
     ensures { λ r. ⌜ r ≡ same (now (a .entry)) (now (b .entry)) ⌝ }
 {
     if a.len() != b.len() {
@@ -20,7 +20,7 @@ pub fn is_same(a: &[u8], b: &[u8]) -> bool
 }
 
 // s begins with t.
-pub fn begins(s: &[u8], t: &[u8]) -> bool
+pub(crate) fn begins(s: &[u8], t: &[u8]) -> bool
     ensures { λ r. ⌜ r ≡ beginsWith (now (t .entry)) (now (s .entry)) ⌝ }
 {
     let n = t.len();
@@ -31,7 +31,7 @@ pub fn begins(s: &[u8], t: &[u8]) -> bool
 }
 
 // The package, as a source or as the path of a pack IRI.
-pub fn is_root(s: &[u8]) -> bool
+pub(crate) fn is_root(s: &[u8]) -> bool
     ensures { λ r. ⌜ r ≡ same (now (s .entry)) (ascii "/") ⌝ }
 {
     is_same(s, b"/")

@@ -29,7 +29,7 @@ pub fn emit(out: &mut [u8], at: usize, bytes: &[u8]) -> usize
 }
 
 // The first n bytes of a text, as the answer of a call.
-pub fn put_text(text: &[u8], n: usize, out: &mut [u8]) -> Written
+pub(crate) fn put_text(text: &[u8], n: usize, out: &mut [u8]) -> Written
     requires { ⌜ (n ≤ length (now text)) × (n ≤ 65536) ⌝ }
     ensures { λ r. ⌜ ofWritten r (now (out .exit)) ≡ written (Text (take n (now (text .entry)))) (now (out .entry)) ⌝ }
 {
