@@ -212,8 +212,7 @@ back-of-equivalent s x h e =
     let f : fold s ≡ fold (relationshipsOf x) = equivalent-fold s (relationshipsOf x) e in
     let a = leb (length (relationshipsOf x)) 266 in
     let b = eqb (sourceRefusal (sourceOf (relationshipsOf x))) 0 in
-    let t = text-is (a && reserved (relationshipsOf x) && b) (sourceOf (relationshipsOf x)) x (back-of-forth x h) in
-    (
+    let t = text-is (a && reserved (relationshipsOf x) && b) (sourceOf (relationshipsOf x)) x (back-of-forth x h) in (
       rw (equivalent-length s (relationshipsOf x) f, equivalent-reserved s (relationshipsOf x) f, equivalent-sources (sourceOf s) (sourceOf (relationshipsOf x)) (equivalent-back s (relationshipsOf x) f), t .0),
       fold-equivalent (sourceOf s) x (equivalent-back s (relationshipsOf x) f ∙ ap fold (t .1)),
     )

@@ -65,11 +65,11 @@ module _ (p n : List ℕ) (x : Bool) (ex : x ≡ packageIri p) where
       pub k-le : k ≤ length p
       k-le = omega (arith, index-le numberSign p)
 
-      pub head-length : k ≡ length (take k p)
-      head-length = sym (length-take-le k p k-le)
+      pub unfragmented-length : k ≡ length (take k p)
+      unfragmented-length = sym (length-take-le k p k-le)
 
-      pub head-short : length (take k p) ≤ 4096
-      head-short = omega (arith, head-length, k-le, package-short)
+      pub unfragmented-few : length (take k p) ≤ 4096
+      unfragmented-few = omega (arith, unfragmented-length, k-le, package-short)
 
       pub part-few : length n ≤ 255
       part-few = part-or-root-few n (sym ey ∙ hy)
@@ -85,8 +85,8 @@ module _ (p n : List ℕ) (x : Bool) (ex : x ≡ packageIri p) where
         pub a-is : a ≡ length head
         a-is = s .next-is ∙ zero-add (length head)
 
-        pub a-few : a ≤ 20000
-        a-few = omega (arith, a-is, length-append (ascii "pack://") (escaped (take k p)), escaped-few (take k p), head-short)
+        pub head-end-few : a ≤ 20000
+        head-end-few = omega (arith, a-is, length-append (ascii "pack://") (escaped (take k p)), escaped-few (take k p), unfragmented-few)
 
         need-is : a + length n ≡ length (head ++ n)
         need-is = rw (length-append head n, a-is)

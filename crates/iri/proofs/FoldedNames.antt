@@ -88,8 +88,14 @@ source-refusal-fold s = rw (root-fold s, part-name-fold s, reserved-fold s)
 source-of-fold : (s : List ℕ) → sourceOf (fold s) ≡ fold (sourceOf s)
 unfolding sourceOf
 source-of-fold s =
-    rw (folder-fold s, last-fold (folder s), take-map lower (afterLast slash (folder s)) s, last-segment-fold s, length-map (lastSegment s) lower,
-    take-map lower (length (lastSegment s) - 5) (lastSegment s))
+    rw (
+      folder-fold s,
+      last-fold (folder s),
+      take-map lower (afterLast slash (folder s)) s,
+      last-segment-fold s,
+      length-map (lastSegment s) lower,
+      take-map lower (length (lastSegment s) - 5) (lastSegment s),
+    )
     (sym (fold-append (take (afterLast slash (folder s)) s) (take (length (lastSegment s) - 5) (lastSegment s))))
 
 -- the same for two equivalent texts

@@ -54,8 +54,17 @@ segment-lower = lower-keeps Bool segmentByte
 hex-lower : (x : ℕ) → hexDigit (lower x) ≡ hexDigit x
 unfolding hexDigit digit
 hex-lower = lower-keeps Bool hexDigit (λ x a b.
-    rw (le-leb 48 x (omega arith), lt-leb x 57 (omega arith), le-leb 65 x a, lt-leb 97 x (omega arith),
-    le-leb 48 (x + 32) (omega arith), lt-leb (x + 32) 57 (omega arith), le-leb 65 (x + 32) (omega arith), lt-leb (x + 32) 70 (omega arith), le-leb 97 (x + 32) (omega arith))
+    rw (
+      le-leb 48 x (omega arith),
+      lt-leb x 57 (omega arith),
+      le-leb 65 x a,
+      lt-leb 97 x (omega arith),
+      le-leb 48 (x + 32) (omega arith),
+      lt-leb (x + 32) 57 (omega arith),
+      le-leb 65 (x + 32) (omega arith),
+      lt-leb (x + 32) 70 (omega arith),
+      le-leb 97 (x + 32) (omega arith),
+    )
     (go x (leb x 70) refl))
   where
     go : (x : ℕ) (q : Bool) → leb x 70 ≡ q → leb (x + 32) 102 ≡ (q || false)

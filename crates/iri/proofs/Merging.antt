@@ -24,17 +24,17 @@ pub last-in : (b : ℕ) (s : List ℕ) (q : ℕ) → q ≡ afterLast b s → q �
 last-in b s q e = omega (arith, last-le b s)
 
 module _ (a : Bool) (base r : List ℕ) (x : ℕ) (ex : x ≡ getD r 0 0) where
-  pub merge-1 : (o o' : List ℕ) (k : ℕ) → x ≡ slash → Sent o 0 r k o' → Sent o 0 (mergedPath a base r) k o'
-  merge-1 o o' k q s = sent-as o o' r _ 0 k (rw (eq-eqb (getD r 0 0) slash (sym ex ∙ q))) s
+  pub merge-absolute : (o o' : List ℕ) (k : ℕ) → x ≡ slash → Sent o 0 r k o' → Sent o 0 (mergedPath a base r) k o'
+  merge-absolute o o' k q s = sent-as o o' r _ 0 k (rw (eq-eqb (getD r 0 0) slash (sym ex ∙ q))) s
 
   module _ (q : x ≡ slash → ⊥) (o o₁ o₂ : List ℕ) (m k : ℕ) where
-    pub merge-2 : (a && eqb (length base) 0) ≡ true → Sent o 0 (slash ∷ []) m o₁ → length o₁ ≡ length o → Sent o₁ m r k o₂ → Sent o 0 (mergedPath a base r) k o₂
+    pub merge-empty : (a && eqb (length base) 0) ≡ true → Sent o 0 (slash ∷ []) m o₁ → length o₁ ≡ length o → Sent o₁ m r k o₂ → Sent o 0 (mergedPath a base r) k o₂
     unfolding merge
-    merge-2 e s l t = sent-as o o₂ (slash ∷ r) _ 0 k (rw (ne-eqb (getD r 0 0) slash (λ f. q (ex ∙ f)), e)) (sent-more o o₁ o₂ (slash ∷ []) r 0 m k s l t)
+    merge-empty e s l t = sent-as o o₂ (slash ∷ r) _ 0 k (rw (ne-eqb (getD r 0 0) slash (λ f. q (ex ∙ f)), e)) (sent-more o o₁ o₂ (slash ∷ []) r 0 m k s l t)
 
-    pub merge-3 : (p : ℕ) → (a && eqb (length base) 0) ≡ false → p ≡ afterLast slash base → Sent o 0 (take p base) m o₁ → length o₁ ≡ length o → Sent o₁ m r k o₂ → Sent o 0 (mergedPath a base r) k o₂
+    pub merge-folder : (p : ℕ) → (a && eqb (length base) 0) ≡ false → p ≡ afterLast slash base → Sent o 0 (take p base) m o₁ → length o₁ ≡ length o → Sent o₁ m r k o₂ → Sent o 0 (mergedPath a base r) k o₂
     unfolding merge
-    merge-3 p e f s l t = sent-as o o₂ (take p base ++ r) _ 0 k (rw (ne-eqb (getD r 0 0) slash (λ f. q (ex ∙ f)), e, f)) (sent-more o o₁ o₂ (take p base) r 0 m k s l t)
+    merge-folder p e f s l t = sent-as o o₂ (take p base ++ r) _ 0 k (rw (ne-eqb (getD r 0 0) slash (λ f. q (ex ∙ f)), e, f)) (sent-more o o₁ o₂ (take p base) r 0 m k s l t)
 
 -- a merged path is at most as long as both, and one more
 merged-few : (a : Bool) (base r : List ℕ) → length (mergedPath a base r) ≤ length base + length r + 1
@@ -47,13 +47,13 @@ merged-few a base r = go (eqb (getD r 0 0) slash) (a && eqb (length base) 0)
     go false false = omega (arith, length-append (take (afterLast slash base) base) r, length-take-le-length (afterLast slash base) base)
 
 module _ (a : Bool) (base r o o₁ : List ℕ) (n : ℕ) (s : Sent o 0 (mergedPath a base r) n o₁) where
-  pub n-few : n ≤ length base + length r + 1
-  n-few = omega (arith, s .next-is, merged-few a base r)
+  pub merged-end-few : n ≤ length base + length r + 1
+  merged-end-few = omega (arith, s .next-is, merged-few a base r)
 
   pub reached : (k : ℕ) (out' : List ℕ) → n ≤ length o → Removed (take n o₁) k out' → Reached a base r k out'
   unfolding relativePath
   reached k out' l d =
       record {
         text = d .text ∙ ap removeDotSegments (sent-text o o₁ (mergedPath a base r) n s l);
-        few = omega (arith, d .few, length-take-le-length n o₁, n-few, ap length (sent-text o o₁ (mergedPath a base r) n s l), s .next-is);
+        few = omega (arith, d .few, length-take-le-length n o₁, merged-end-few, ap length (sent-text o o₁ (mergedPath a base r) n s l), s .next-is);
       }

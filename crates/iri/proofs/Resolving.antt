@@ -29,23 +29,23 @@ zero-take [] = refl
 zero-take (x ∷ l) = refl
 
 module _ (s : List ℕ) (x y : ℕ) (h : Placed s x y) where
-  pub path-few : length (drop y s) ≤ 255
+  pub pack-path-few : length (drop y s) ≤ 255
   unfolding packForm
-  path-few = rw (h .path) at (go (none (pathOf s)) refl (and-right (equivalent (schemeOf s) (ascii "pack:") && defined (authorityOf s) && leb (length (drop 2 (authorityOf s))) 765 && (none (queryOf s) && none (fragmentOf s))) (none (pathOf s) || partOrRoot (pathOf s)) (h .form)))
+  pack-path-few = rw (h .path) at (go (none (pathOf s)) refl (and-right (equivalent (schemeOf s) (ascii "pack:") && defined (authorityOf s) && leb (length (drop 2 (authorityOf s))) 765 && (none (queryOf s) && none (fragmentOf s))) (none (pathOf s) || partOrRoot (pathOf s)) (h .form)))
     where
       go : (q : Bool) → none (pathOf s) ≡ q → (q || partOrRoot (pathOf s)) ≡ true → length (pathOf s) ≤ 255
       go true e f = omega (arith, eqb-true (length (pathOf s)) 0 e)
       go false e f = part-or-root-few (pathOf s) f
 
-  pub slice-few : length (take (y - x) (drop x s)) ≤ 765
-  slice-few = omega (arith, length-take-few (y - x) (drop x s), h .few)
+  pub authority-few : length (take (y - x) (drop x s)) ≤ 765
+  authority-few = omega (arith, length-take-few (y - x) (drop x s), h .few)
 
   module _ (k : ℕ) (b : List ℕ) (d : Decoded (take (y - x) (drop x s)) k b) (lb : length b ≡ 765) where
-    pub k-few : k ≤ 765
-    k-few = omega (arith, d .few, slice-few)
+    pub package-end-few : k ≤ 765
+    package-end-few = omega (arith, d .few, authority-few)
 
-    pub k-length : k ≡ length (take k b)
-    k-length = sym (length-take-le k b (omega (arith, k-few, lb)))
+    pub package-end-length : k ≡ length (take k b)
+    package-end-length = sym (length-take-le k b (omega (arith, package-end-few, lb)))
 
     package-is : packageOf (drop 2 (authorityOf s)) ≡ take k b
     package-is = ap packageOf (h .authority) ∙ sym (d .text)
@@ -73,21 +73,21 @@ module _ (s : List ℕ) (x y : ℕ) (h : Placed s x y) where
             go true = zero-take (drop y s)
             go false = take-all (length (drop y s)) (drop y s) (omega arith)
 
-        pub m-le : y + m ≤ length s
-        m-le = omega (arith, h .inside, length-drop y s, m-is, small (same (drop y s) (ascii "/")))
+        pub part-end-le : y + m ≤ length s
+        part-end-le = omega (arith, h .inside, length-drop y s, m-is, small (same (drop y s) (ascii "/")))
           where
             small : (q : Bool) → length (cond q [] (drop y s)) ≤ length (drop y s)
             small true = omega arith
             small false = omega arith
 
-        pub m-few : m ≤ 255
-        m-few = omega (arith, path-few, length-drop y s, m-le)
+        pub part-end-few : m ≤ 255
+        part-end-few = omega (arith, pack-path-few, length-drop y s, part-end-le)
 
         pub pack-short : (out : List ℕ) → length out < k + m → ofResolved (resolved.Short (k + m)) out ≡ located (resolvePack s) out
-        pack-short out l = located-short (resolvePack s) (take k b) N out k m form-is k-length m-is l
+        pack-short out l = located-short (resolvePack s) (take k b) N out k m form-is package-end-length m-is l
 
         pub pack-found : (out o₁ o₂ : List ℕ) (i j : ℕ) → k + m ≤ length out → Sent out 0 (take k b) i o₁ → length o₁ ≡ length out → Sent o₁ i (take (y + m - y) (drop y s)) j o₂
             → ofResolved (resolved.Found k m) o₂ ≡ located (resolvePack s) out
         pack-found out o₁ o₂ i j l s₁ e s₂ =
             let w : Sent out 0 (take k b ++ N) j o₂ = sent-more out o₁ o₂ (take k b) N 0 i j s₁ e (rw part-is at s₂) in
-            located-found (resolvePack s) (take k b) N out k m form-is k-length m-is o₂ l (w .fits (omega (arith, length-append (take k b) N, k-length, m-is)) ∙ rw (zero-add (length (take k b ++ N))))
+            located-found (resolvePack s) (take k b) N out k m form-is package-end-length m-is o₂ l (w .fits (omega (arith, length-append (take k b) N, package-end-length, m-is)) ∙ rw (zero-add (length (take k b ++ N))))

@@ -105,15 +105,15 @@ sent-text o o₁ t n s l = go (s .next-is) (s .fits (omega (arith, s .next-is)))
 
 -- a text that was told as its first n bytes
 module _ (text out : List ℕ) (n : ℕ) (l : n ≤ length text) where
-  n-taken : n ≡ length (take n text)
-  n-taken = sym (length-take-le n text l)
+  taken-length : n ≡ length (take n text)
+  taken-length = sym (length-take-le n text l)
 
   pub put-short : length out < n → ofWritten (Short n) out ≡ written (Text (take n text)) out
-  put-short s = answer-short (Text (take n text)) (take n text) out out n refl n-taken s refl
+  put-short s = answer-short (Text (take n text)) (take n text) out out n refl taken-length s refl
 
   pub put-bytes : (m : ℕ) (out' : List ℕ) → n ≤ length out → Sent out 0 (take n text) m out' → ofWritten (Bytes n) out' ≡ written (Text (take n text)) out
   put-bytes m out' f s =
-      answer-bytes (Text (take n text)) (take n text) out out' n refl n-taken f (s .fits (omega (arith, n-taken)) ∙ rw (zero-add (length (take n text))))
+      answer-bytes (Text (take n text)) (take n text) out out' n refl taken-length f (s .fits (omega (arith, taken-length)) ∙ rw (zero-add (length (take n text))))
 
 -- what a caller learns from each case of the answer
 pub told-bytes : (t out out' : List ℕ) (n : ℕ) → ofWritten (Bytes n) out' ≡ written (Text t) out → (n ≡ length t) × (n ≤ length out) × (out' ≡ t ++ drop (length t) out)

@@ -1,7 +1,7 @@
 use native.Mathlib.Omega.{arith}
 use borrow.Author.Needs.{needs}
 use Rattle.iri.specs.Pack.{compose}
-use Rattle.iri.proofs.Composing.{compose-9, compose-4, head-length, head-short, a-few, part-few, compose-short, compose-bytes}
+use Rattle.iri.proofs.Composing.{compose-9, compose-4, unfragmented-length, unfragmented-few, head-end-few, part-few, compose-short, compose-bytes}
 use Rattle.iri.proofs.Sending.{answer-refused}
 use Rattle.iri.proofs.pack.compose.Statement.{statement}
 use Rattle.iri.proofs.pack.compose.Tie as tie
@@ -22,7 +22,7 @@ find-requires : tie.Need-find-requires
 find-requires c κs = search needs
 
 slice-aggregate-put-authority : tie.Need-slice-aggregate-put-authority
-slice-aggregate-put-authority c = head-length (c .before .before .before .before .before .before .before .before .before .args .p .now) (c .before .before .before .before .before .before .before .before .before .args .n .now) _ (c .before .before .before .before .before .is-package-iri .ensures) (c .before .before .before .before .if1 .left) _ (c .before .before .before .is-part-or-root .ensures) (c .before .before .if2 .left) _ (c .before .find .ensures)
+slice-aggregate-put-authority c = unfragmented-length (c .before .before .before .before .before .before .before .before .before .args .p .now) (c .before .before .before .before .before .before .before .before .before .args .n .now) _ (c .before .before .before .before .before .is-package-iri .ensures) (c .before .before .before .before .if1 .left) _ (c .before .before .before .is-part-or-root .ensures) (c .before .before .if2 .left) _ (c .before .find .ensures)
 
 slice-relend-prefix-put-authority : tie.Need-slice-relend-prefix-put-authority
 slice-relend-prefix-put-authority c = search needs
@@ -31,10 +31,10 @@ slice-aggregate-put-authority-2 : tie.Need-slice-aggregate-put-authority-2
 slice-aggregate-put-authority-2 c = search needs
 
 put-authority-requires : tie.Need-put-authority-requires
-put-authority-requires c κs = head-short (c .before .before .before .before .before .before .before .before .before .before .args .p .now) (c .before .before .before .before .before .before .before .before .before .before .args .n .now) _ (c .before .before .before .before .before .before .is-package-iri .ensures) (c .before .before .before .before .before .if1 .left) _ (c .before .before .before .before .is-part-or-root .ensures) (c .before .before .before .if2 .left) _ (c .before .before .find .ensures)
+put-authority-requires c κs = unfragmented-few (c .before .before .before .before .before .before .before .before .before .before .args .p .now) (c .before .before .before .before .before .before .before .before .before .before .args .n .now) _ (c .before .before .before .before .before .before .is-package-iri .ensures) (c .before .before .before .before .before .if1 .left) _ (c .before .before .before .before .is-part-or-root .ensures) (c .before .before .before .if2 .left) _ (c .before .before .find .ensures)
 
 add-need : tie.Need-add-need
-add-need c = let l = a-few (c .before .before .before .before .before .before .before .before .before .before .before .before .before .args .p .now) (c .before .before .before .before .before .before .before .before .before .before .before .before .before .args .n .now) _ (c .before .before .before .before .before .before .before .before .before .is-package-iri .ensures) (c .before .before .before .before .before .before .before .before .if1 .left) _ (c .before .before .before .before .before .before .before .is-part-or-root .ensures) (c .before .before .before .before .before .before .if2 .left) _ (c .before .before .before .before .before .find .ensures) _ _ _ (c .before .before .put-authority .ensures) in let m = part-few (c .before .before .before .before .before .before .before .before .before .before .before .before .before .args .p .now) (c .before .before .before .before .before .before .before .before .before .before .before .before .before .args .n .now) _ (c .before .before .before .before .before .before .before .before .before .is-package-iri .ensures) (c .before .before .before .before .before .before .before .before .if1 .left) _ (c .before .before .before .before .before .before .before .is-part-or-root .ensures) (c .before .before .before .before .before .before .if2 .left) _ (c .before .before .before .before .before .find .ensures) in omega arith
+add-need c = let l = head-end-few (c .before .before .before .before .before .before .before .before .before .before .before .before .before .args .p .now) (c .before .before .before .before .before .before .before .before .before .before .before .before .before .args .n .now) _ (c .before .before .before .before .before .before .before .before .before .is-package-iri .ensures) (c .before .before .before .before .before .before .before .before .if1 .left) _ (c .before .before .before .before .before .before .before .is-part-or-root .ensures) (c .before .before .before .before .before .before .if2 .left) _ (c .before .before .before .before .before .find .ensures) _ _ _ (c .before .before .put-authority .ensures) in let m = part-few (c .before .before .before .before .before .before .before .before .before .before .before .before .before .args .p .now) (c .before .before .before .before .before .before .before .before .before .before .before .before .before .args .n .now) _ (c .before .before .before .before .before .before .before .before .before .is-package-iri .ensures) (c .before .before .before .before .before .before .before .before .if1 .left) _ (c .before .before .before .before .before .before .before .is-part-or-root .ensures) (c .before .before .before .before .before .before .if2 .left) _ (c .before .before .before .before .before .find .ensures) in omega arith
 
 same-length : tie.Need-same-length
 same-length c = search needs
@@ -43,10 +43,10 @@ returns-3 : tie.Need-returns-3
 returns-3 c = compose-short (c .before .before .before .before .before .before .before .before .before .before .before .before .before .before .args .p .now) (c .before .before .before .before .before .before .before .before .before .before .before .before .before .before .args .n .now) _ (c .before .before .before .before .before .before .before .before .before .before .is-package-iri .ensures) (c .before .before .before .before .before .before .before .before .before .if1 .left) _ (c .before .before .before .before .before .before .before .before .is-part-or-root .ensures) (c .before .before .before .before .before .before .before .if2 .left) _ (c .before .before .before .before .before .before .find .ensures) _ _ _ (c .before .before .before .put-authority .ensures) (c .before .before .before .before .before .before .before .before .before .before .before .before .before .before .args .out .now) (c .before .before .before .put-authority .kept .1 .0) (c .if3 .taken)
 
 slice-aggregate-put-authority-3 : tie.Need-slice-aggregate-put-authority-3
-slice-aggregate-put-authority-3 c = head-length (c .before .before .before .before .before .before .before .before .before .before .before .before .before .before .before .args .p .now) (c .before .before .before .before .before .before .before .before .before .before .before .before .before .before .before .args .n .now) _ (c .before .before .before .before .before .before .before .before .before .before .before .is-package-iri .ensures) (c .before .before .before .before .before .before .before .before .before .before .if1 .left) _ (c .before .before .before .before .before .before .before .before .before .is-part-or-root .ensures) (c .before .before .before .before .before .before .before .before .if2 .left) _ (c .before .before .before .before .before .before .before .find .ensures)
+slice-aggregate-put-authority-3 c = unfragmented-length (c .before .before .before .before .before .before .before .before .before .before .before .before .before .before .before .args .p .now) (c .before .before .before .before .before .before .before .before .before .before .before .before .before .before .before .args .n .now) _ (c .before .before .before .before .before .before .before .before .before .before .before .is-package-iri .ensures) (c .before .before .before .before .before .before .before .before .before .before .if1 .left) _ (c .before .before .before .before .before .before .before .before .before .is-part-or-root .ensures) (c .before .before .before .before .before .before .before .before .if2 .left) _ (c .before .before .before .before .before .before .before .find .ensures)
 
 put-authority-requires-2 : tie.Need-put-authority-requires-2
-put-authority-requires-2 c κs = head-short (c .before .before .before .before .before .before .before .before .before .before .before .before .before .before .before .before .args .p .now) (c .before .before .before .before .before .before .before .before .before .before .before .before .before .before .before .before .args .n .now) _ (c .before .before .before .before .before .before .before .before .before .before .before .before .is-package-iri .ensures) (c .before .before .before .before .before .before .before .before .before .before .before .if1 .left) _ (c .before .before .before .before .before .before .before .before .before .before .is-part-or-root .ensures) (c .before .before .before .before .before .before .before .before .before .if2 .left) _ (c .before .before .before .before .before .before .before .before .find .ensures)
+put-authority-requires-2 c κs = unfragmented-few (c .before .before .before .before .before .before .before .before .before .before .before .before .before .before .before .before .args .p .now) (c .before .before .before .before .before .before .before .before .before .before .before .before .before .before .before .before .args .n .now) _ (c .before .before .before .before .before .before .before .before .before .before .before .before .is-package-iri .ensures) (c .before .before .before .before .before .before .before .before .before .before .before .if1 .left) _ (c .before .before .before .before .before .before .before .before .before .before .is-part-or-root .ensures) (c .before .before .before .before .before .before .before .before .before .if2 .left) _ (c .before .before .before .before .before .before .before .before .find .ensures)
 
 sub-put-path : tie.Need-sub-put-path
 sub-put-path c = search needs

@@ -5,7 +5,7 @@ use borrow.Author.Needs.{needs}
 use Rattle.iri.specs.Pack.{resolvePack}
 use Rattle.iri.proofs.Lists.{length-take-few}
 use Rattle.iri.proofs.Locating.{located-refused}
-use Rattle.iri.proofs.Resolving.{k-length, pack-refused, m-le, m-few, k-few, pack-short, pack-found}
+use Rattle.iri.proofs.Resolving.{package-end-length, pack-refused, part-end-le, part-end-few, package-end-few, pack-short, pack-found}
 use Rattle.iri.proofs.pack.resolve_at.Statement.{statement}
 use Rattle.iri.proofs.pack.resolve_at.Tie as tie
 
@@ -28,7 +28,7 @@ array-share-prefix-package : tie.Need-array-share-prefix-package
 array-share-prefix-package c = search needs
 
 slice-aggregate-is-unfragmented : tie.Need-slice-aggregate-is-unfragmented
-slice-aggregate-is-unfragmented c = k-length (c .before .before .before .before .before .before .before .args .s .now) _ _ (c .before .before .before .before .before .before .before .pre) _ _ (c .before .before .decode .ensures) (c .before .before .decode .kept .1 .0)
+slice-aggregate-is-unfragmented c = package-end-length (c .before .before .before .before .before .before .before .args .s .now) _ _ (c .before .before .before .before .before .before .before .pre) _ _ (c .before .before .decode .ensures) (c .before .before .decode .kept .1 .0)
 
 is-unfragmented-requires : tie.Need-is-unfragmented-requires
 is-unfragmented-requires c κs = search needs
@@ -49,10 +49,10 @@ part-len-requires : tie.Need-part-len-requires
 part-len-requires c κs = search needs
 
 add-e : tie.Need-add-e
-add-e c = let l = m-le (c .before .before .before .before .before .before .before .before .before .before .before .args .s .now) _ _ (c .before .before .before .before .before .before .before .before .before .before .before .pre) _ _ (c .before .before .before .before .before .before .decode .ensures) (c .before .before .before .before .before .before .decode .kept .1 .0) _ (c .before .before .before .is-unfragmented .ensures) (c .before .before .if1 .left) _ (c .part-len .ensures) in omega arith
+add-e c = let l = part-end-le (c .before .before .before .before .before .before .before .before .before .before .before .args .s .now) _ _ (c .before .before .before .before .before .before .before .before .before .before .before .pre) _ _ (c .before .before .before .before .before .before .decode .ensures) (c .before .before .before .before .before .before .decode .kept .1 .0) _ (c .before .before .before .is-unfragmented .ensures) (c .before .before .if1 .left) _ (c .part-len .ensures) in omega arith
 
 add-need : tie.Need-add-need
-add-need c = let l = m-few (c .before .before .before .before .before .before .before .before .before .before .before .args .s .now) _ _ (c .before .before .before .before .before .before .before .before .before .before .before .pre) _ _ (c .before .before .before .before .before .before .decode .ensures) (c .before .before .before .before .before .before .decode .kept .1 .0) _ (c .before .before .before .is-unfragmented .ensures) (c .before .before .if1 .left) _ (c .part-len .ensures) in let g = k-few (c .before .before .before .before .before .before .before .before .before .before .before .args .s .now) _ _ (c .before .before .before .before .before .before .before .before .before .before .before .pre) _ _ (c .before .before .before .before .before .before .decode .ensures) (c .before .before .before .before .before .before .decode .kept .1 .0) in omega arith
+add-need c = let l = part-end-few (c .before .before .before .before .before .before .before .before .before .before .before .args .s .now) _ _ (c .before .before .before .before .before .before .before .before .before .before .before .pre) _ _ (c .before .before .before .before .before .before .decode .ensures) (c .before .before .before .before .before .before .decode .kept .1 .0) _ (c .before .before .before .is-unfragmented .ensures) (c .before .before .if1 .left) _ (c .part-len .ensures) in let g = package-end-few (c .before .before .before .before .before .before .before .before .before .before .before .args .s .now) _ _ (c .before .before .before .before .before .before .before .before .before .before .before .pre) _ _ (c .before .before .before .before .before .before .decode .ensures) (c .before .before .before .before .before .before .decode .kept .1 .0) in omega arith
 
 returns-2 : tie.Need-returns-2
 returns-2 c = pack-short (c .before .before .before .before .before .before .before .before .before .before .before .before .args .s .now) _ _ (c .before .before .before .before .before .before .before .before .before .before .before .before .pre) _ _ (c .before .before .before .before .before .before .before .decode .ensures) (c .before .before .before .before .before .before .before .decode .kept .1 .0) _ (c .before .before .before .before .is-unfragmented .ensures) (c .before .before .before .if1 .left) _ (c .before .part-len .ensures) (c .before .before .before .before .before .before .before .before .before .before .before .before .args .out .now) (c .if2 .taken)
@@ -61,10 +61,10 @@ array-share-prefix-package-2 : tie.Need-array-share-prefix-package-2
 array-share-prefix-package-2 c = search needs
 
 slice-aggregate-emit : tie.Need-slice-aggregate-emit
-slice-aggregate-emit c = k-length (c .before .before .before .before .before .before .before .before .before .before .before .before .before .before .args .s .now) _ _ (c .before .before .before .before .before .before .before .before .before .before .before .before .before .before .pre) _ _ (c .before .before .before .before .before .before .before .before .before .decode .ensures) (c .before .before .before .before .before .before .before .before .before .decode .kept .1 .0)
+slice-aggregate-emit c = package-end-length (c .before .before .before .before .before .before .before .before .before .before .before .before .before .before .args .s .now) _ _ (c .before .before .before .before .before .before .before .before .before .before .before .before .before .before .pre) _ _ (c .before .before .before .before .before .before .before .before .before .decode .ensures) (c .before .before .before .before .before .before .before .before .before .decode .kept .1 .0)
 
 emit-requires : tie.Need-emit-requires
-emit-requires c κs = (omega arith, omega (arith, k-few (c .before .before .before .before .before .before .before .before .before .before .before .before .before .before .args .s .now) _ _ (c .before .before .before .before .before .before .before .before .before .before .before .before .before .before .pre) _ _ (c .before .before .before .before .before .before .before .before .before .decode .ensures) (c .before .before .before .before .before .before .before .before .before .decode .kept .1 .0), k-length (c .before .before .before .before .before .before .before .before .before .before .before .before .before .before .args .s .now) _ _ (c .before .before .before .before .before .before .before .before .before .before .before .before .before .before .pre) _ _ (c .before .before .before .before .before .before .before .before .before .decode .ensures) (c .before .before .before .before .before .before .before .before .before .decode .kept .1 .0)))
+emit-requires c κs = (omega arith, omega (arith, package-end-few (c .before .before .before .before .before .before .before .before .before .before .before .before .before .before .args .s .now) _ _ (c .before .before .before .before .before .before .before .before .before .before .before .before .before .before .pre) _ _ (c .before .before .before .before .before .before .before .before .before .decode .ensures) (c .before .before .before .before .before .before .before .before .before .decode .kept .1 .0), package-end-length (c .before .before .before .before .before .before .before .before .before .before .before .before .before .before .args .s .now) _ _ (c .before .before .before .before .before .before .before .before .before .before .before .before .before .before .pre) _ _ (c .before .before .before .before .before .before .before .before .before .decode .ensures) (c .before .before .before .before .before .before .before .before .before .decode .kept .1 .0)))
 
 sub-emit : tie.Need-sub-emit
 sub-emit c = search needs
@@ -73,10 +73,10 @@ part-emit-start : tie.Need-part-emit-start
 part-emit-start c = search needs
 
 part-emit-end : tie.Need-part-emit-end
-part-emit-end c = let l = m-le (c .before .before .before .before .before .before .before .before .before .before .before .before .before .before .before .before .before .before .args .s .now) _ _ (c .before .before .before .before .before .before .before .before .before .before .before .before .before .before .before .before .before .before .pre) _ _ (c .before .before .before .before .before .before .before .before .before .before .before .before .before .decode .ensures) (c .before .before .before .before .before .before .before .before .before .before .before .before .before .decode .kept .1 .0) _ (c .before .before .before .before .before .before .before .before .before .before .is-unfragmented .ensures) (c .before .before .before .before .before .before .before .before .before .if1 .left) _ (c .before .before .before .before .before .before .before .part-len .ensures) in search needs
+part-emit-end c = let l = part-end-le (c .before .before .before .before .before .before .before .before .before .before .before .before .before .before .before .before .before .before .args .s .now) _ _ (c .before .before .before .before .before .before .before .before .before .before .before .before .before .before .before .before .before .before .pre) _ _ (c .before .before .before .before .before .before .before .before .before .before .before .before .before .decode .ensures) (c .before .before .before .before .before .before .before .before .before .before .before .before .before .decode .kept .1 .0) _ (c .before .before .before .before .before .before .before .before .before .before .is-unfragmented .ensures) (c .before .before .before .before .before .before .before .before .before .if1 .left) _ (c .before .before .before .before .before .before .before .part-len .ensures) in search needs
 
 emit-requires-2 : tie.Need-emit-requires-2
-emit-requires-2 c κs = let l = m-few (c .before .before .before .before .before .before .before .before .before .before .before .before .before .before .before .before .before .before .before .args .s .now) _ _ (c .before .before .before .before .before .before .before .before .before .before .before .before .before .before .before .before .before .before .before .pre) _ _ (c .before .before .before .before .before .before .before .before .before .before .before .before .before .before .decode .ensures) (c .before .before .before .before .before .before .before .before .before .before .before .before .before .before .decode .kept .1 .0) _ (c .before .before .before .before .before .before .before .before .before .before .before .is-unfragmented .ensures) (c .before .before .before .before .before .before .before .before .before .before .if1 .left) _ (c .before .before .before .before .before .before .before .before .part-len .ensures) in let y = c .before .before .before .before .before .before .before .before .before .before .before .before .before .before .before .before .before .before .before .args .y in let m = c .before .before .before .before .before .before .before .before .part-len .result in (omega (arith, c .before .before .before .before .emit .ensures .next-is, k-few (c .before .before .before .before .before .before .before .before .before .before .before .before .before .before .before .before .before .before .before .args .s .now) _ _ (c .before .before .before .before .before .before .before .before .before .before .before .before .before .before .before .before .before .before .before .pre) _ _ (c .before .before .before .before .before .before .before .before .before .before .before .before .before .before .decode .ensures) (c .before .before .before .before .before .before .before .before .before .before .before .before .before .before .decode .kept .1 .0), k-length (c .before .before .before .before .before .before .before .before .before .before .before .before .before .before .before .before .before .before .before .args .s .now) _ _ (c .before .before .before .before .before .before .before .before .before .before .before .before .before .before .before .before .before .before .before .pre) _ _ (c .before .before .before .before .before .before .before .before .before .before .before .before .before .before .decode .ensures) (c .before .before .before .before .before .before .before .before .before .before .before .before .before .before .decode .kept .1 .0)), omega (arith, length-take-few (y + m - y) (drop y (c .before .before .before .before .before .before .before .before .before .before .before .before .before .before .before .before .before .before .before .args .s .now))))
+emit-requires-2 c κs = let l = part-end-few (c .before .before .before .before .before .before .before .before .before .before .before .before .before .before .before .before .before .before .before .args .s .now) _ _ (c .before .before .before .before .before .before .before .before .before .before .before .before .before .before .before .before .before .before .before .pre) _ _ (c .before .before .before .before .before .before .before .before .before .before .before .before .before .before .decode .ensures) (c .before .before .before .before .before .before .before .before .before .before .before .before .before .before .decode .kept .1 .0) _ (c .before .before .before .before .before .before .before .before .before .before .before .is-unfragmented .ensures) (c .before .before .before .before .before .before .before .before .before .before .if1 .left) _ (c .before .before .before .before .before .before .before .before .part-len .ensures) in let y = c .before .before .before .before .before .before .before .before .before .before .before .before .before .before .before .before .before .before .before .args .y in let m = c .before .before .before .before .before .before .before .before .part-len .result in (omega (arith, c .before .before .before .before .emit .ensures .next-is, package-end-few (c .before .before .before .before .before .before .before .before .before .before .before .before .before .before .before .before .before .before .before .args .s .now) _ _ (c .before .before .before .before .before .before .before .before .before .before .before .before .before .before .before .before .before .before .before .pre) _ _ (c .before .before .before .before .before .before .before .before .before .before .before .before .before .before .decode .ensures) (c .before .before .before .before .before .before .before .before .before .before .before .before .before .before .decode .kept .1 .0), package-end-length (c .before .before .before .before .before .before .before .before .before .before .before .before .before .before .before .before .before .before .before .args .s .now) _ _ (c .before .before .before .before .before .before .before .before .before .before .before .before .before .before .before .before .before .before .before .pre) _ _ (c .before .before .before .before .before .before .before .before .before .before .before .before .before .before .decode .ensures) (c .before .before .before .before .before .before .before .before .before .before .before .before .before .before .decode .kept .1 .0)), omega (arith, length-take-few (y + m - y) (drop y (c .before .before .before .before .before .before .before .before .before .before .before .before .before .before .before .before .before .before .before .args .s .now))))
 
 same-length : tie.Need-same-length
 same-length c = search needs

@@ -2,7 +2,7 @@ use native.Mathlib.Omega.{arith}
 use borrow.Author.Needs.{needs}
 use Rattle.chars.specs.Bytes.{slash}
 use Rattle.iri.proofs.Lists.{length-take-le-length}
-use Rattle.iri.proofs.Merging.{merge-1, merge-2, last-length, merge-3}
+use Rattle.iri.proofs.Merging.{merge-absolute, merge-empty, last-length, merge-folder}
 use Rattle.iri.proofs.references.merge.Statement.{statement}
 use Rattle.iri.proofs.references.merge.Tie as tie
 
@@ -16,7 +16,7 @@ same-length : tie.Need-same-length
 same-length c = search needs
 
 returns : tie.Need-returns
-returns c = merge-1 _ _ _ _ (c .before .before .before .before .before .byte-at .ensures) _ _ _ (c .before .before .before .before .if1 .taken) (c .before .before .emit .ensures)
+returns c = merge-absolute _ _ _ _ (c .before .before .before .before .before .byte-at .ensures) _ _ _ (c .before .before .before .before .if1 .taken) (c .before .before .emit .ensures)
 
 slice-aggregate-emit : tie.Need-slice-aggregate-emit
 slice-aggregate-emit c = search needs
@@ -31,7 +31,7 @@ same-length-2 : tie.Need-same-length-2
 same-length-2 c = search needs
 
 returns-2 : tie.Need-returns-2
-returns-2 c = merge-2 _ _ _ _ (c .before .before .before .before .before .before .before .before .before .before .before .byte-at .ensures) (c .before .before .before .before .before .before .before .before .before .before .if1 .left) _ _ _ _ _ (c .before .before .before .before .before .before .before .before .before .if2 .taken) (c .before .before .before .before .before .before .emit2 .ensures) (c .before .before .before .before .before .before .emit2 .kept .0) (c .before .before .emit3 .ensures)
+returns-2 c = merge-empty _ _ _ _ (c .before .before .before .before .before .before .before .before .before .before .before .byte-at .ensures) (c .before .before .before .before .before .before .before .before .before .before .if1 .left) _ _ _ _ _ (c .before .before .before .before .before .before .before .before .before .if2 .taken) (c .before .before .before .before .before .before .emit2 .ensures) (c .before .before .before .before .before .before .emit2 .kept .0) (c .before .before .emit3 .ensures)
 
 find-past-requires : tie.Need-find-past-requires
 find-past-requires c κs = search needs
@@ -49,7 +49,7 @@ same-length-3 : tie.Need-same-length-3
 same-length-3 c = search needs
 
 returns-3 : tie.Need-returns-3
-returns-3 c = merge-3 _ _ _ _ (c .before .before .before .before .before .before .before .before .before .before .before .before .byte-at .ensures) (c .before .before .before .before .before .before .before .before .before .before .before .if1 .left) _ _ _ _ _ _ (c .before .before .before .before .before .before .before .before .before .before .if2 .left) (c .before .before .before .before .before .before .before .before .before .find-past .ensures) (c .before .before .before .before .before .before .emit4 .ensures) (c .before .before .before .before .before .before .emit4 .kept .0) (c .before .before .emit5 .ensures)
+returns-3 c = merge-folder _ _ _ _ (c .before .before .before .before .before .before .before .before .before .before .before .before .byte-at .ensures) (c .before .before .before .before .before .before .before .before .before .before .before .if1 .left) _ _ _ _ _ _ (c .before .before .before .before .before .before .before .before .before .before .if2 .left) (c .before .before .before .before .before .before .before .before .before .find-past .ensures) (c .before .before .before .before .before .before .emit4 .ensures) (c .before .before .before .before .before .before .emit4 .kept .0) (c .before .before .emit5 .ensures)
 
 pub merge-spec : {M : Type 1} → statement M
 merge-spec =
