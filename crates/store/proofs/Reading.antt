@@ -1,0 +1,42 @@
+-- What `tag` and `field` return is the row's.
+-- Assumes nothing.
+use mathlib.Core.Path.{_≡_, refl}
+use Prim.Native.Nat.{ℕ, zero, suc, _+_, _≤_, _<_}
+use mathlib.Core.List.{List}
+use native.Mathlib.Omega.{arith}
+use lib.ListN.{length}
+use Rattle.store.specs.Buffer.{part, num4}
+use Rattle.store.specs.Layout.{heapStart, countOf, slotOf}
+use Rattle.store.specs.Rows.{Row, rowOf, rowAt, tagAt, fieldOf}
+use Rattle.store.specs.Packages.{Sound}
+
+pub read-tag : (b : List ℕ) (i x : ℕ) → x ≡ num4 (slotOf b i) 20 → x ≡ tagAt b i
+unfolding rowOf
+read-tag b i x e = e
+
+last-field : (r : Row) (j : ℕ) → 3 ≤ j → fieldOf r j ≡ r .f3
+unfolding fieldOf
+last-field r zero h = absurd (omega arith)
+last-field r (suc zero) h = absurd (omega arith)
+last-field r (suc (suc zero)) h = absurd (omega arith)
+last-field r (suc (suc (suc j))) h = refl
+
+-- a and n0 to n3 are the numbers of slot i as the code has read them, and x what `cut` returned
+module _ (b : List ℕ) (i j : ℕ) (x : List ℕ) (so : Sound b) (h : i < countOf b) (a n0 : ℕ) (ea : a ≡ heapStart + num4 (slotOf b i) 0) (e0 : n0 ≡ num4 (slotOf b i) 4) where
+  pub read-0 : j ≡ 0 → (a + n0 ≤ length b → x ≡ part a n0 b) → x ≡ fieldOf (rowAt b i) j
+  unfolding rowOf fieldOf
+  read-0 ej g = rw (ej, ← ea, ← e0) (g (omega (arith, so .inside i h)))
+
+  module _ (n1 : ℕ) (e1 : n1 ≡ num4 (slotOf b i) 8) where
+    pub read-1 : j ≡ 1 → (a + n0 + n1 ≤ length b → x ≡ part (a + n0) n1 b) → x ≡ fieldOf (rowAt b i) j
+    unfolding rowOf fieldOf
+    read-1 ej g = rw (ej, ← ea, ← e0, ← e1) (g (omega (arith, so .inside i h)))
+
+    module _ (n2 : ℕ) (e2 : n2 ≡ num4 (slotOf b i) 12) where
+      pub read-2 : j ≡ 2 → (a + n0 + n1 + n2 ≤ length b → x ≡ part (a + n0 + n1) n2 b) → x ≡ fieldOf (rowAt b i) j
+      unfolding rowOf fieldOf
+      read-2 ej g = rw (ej, ← ea, ← e0, ← e1, ← e2) (g (omega (arith, so .inside i h)))
+
+      pub read-3 : (n3 : ℕ) → n3 ≡ num4 (slotOf b i) 16 → 3 ≤ j → (a + n0 + n1 + n2 + n3 ≤ length b → x ≡ part (a + n0 + n1 + n2) n3 b) → x ≡ fieldOf (rowAt b i) j
+      unfolding rowOf
+      read-3 n3 e3 ej g = rw (last-field (rowAt b i) j ej, ← ea, ← e0, ← e1, ← e2, ← e3) (g (omega (arith, so .inside i h)))

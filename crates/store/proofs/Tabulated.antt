@@ -1,0 +1,73 @@
+-- Rows given one by one: a row put in, a row taken out.
+-- Assumes nothing.
+use mathlib.Core.Path.{_≡_, refl, ap, _∙_}
+use Prim.Native.Nat.{ℕ, zero, suc, _+_, _-_, _≤_, _<_}
+use mathlib.Core.List.{List, [], _∷_}
+use native.Mathlib.Omega.{arith}
+use native.Mathlib.Nat.{suc-add}
+use lib.ListN.{length, getD}
+use Rattle.store.specs.Rows.{Row, noRow, tabulate, insertAt, removeAt, total, rowSize}
+
+pub tabulate-same : (n : ℕ) (f g : ℕ → Row) → ((i : ℕ) → i < n → g i ≡ f i) → tabulate n g ≡ tabulate n f
+unfolding tabulate
+tabulate-same zero f g e = refl
+tabulate-same (suc n) f g e =
+    ap (λ (x : Row). x ∷ tabulate n (λ k. g (suc k))) (e zero (omega arith))
+    ∙ ap (λ (l : List Row). f zero ∷ l) (tabulate-same n (λ k. f (suc k)) (λ k. g (suc k)) (λ i h. e (suc i) (omega arith)))
+
+pub tabulate-insert : (r n : ℕ) (f g : ℕ → Row) (x : Row) → r ≤ n → ((i : ℕ) → i < r → g i ≡ f i) → g r ≡ x → ((i : ℕ) → r ≤ i → i < n → g (suc i) ≡ f i)
+    → tabulate (suc n) g ≡ insertAt r x (tabulate n f)
+unfolding tabulate insertAt
+tabulate-insert zero n f g x h lo at hi =
+    ap (λ (y : Row). y ∷ tabulate n (λ k. g (suc k))) at ∙ ap (λ (l : List Row). x ∷ l) (tabulate-same n f (λ k. g (suc k)) (λ i b. hi i (omega arith) b))
+tabulate-insert (suc r) zero f g x h lo at hi = absurd (omega arith)
+tabulate-insert (suc r) (suc n) f g x h lo at hi =
+    ap (λ (y : Row). y ∷ tabulate (suc n) (λ k. g (suc k))) (lo zero (omega arith))
+    ∙ ap (λ (l : List Row). f zero ∷ l)
+    (tabulate-insert r n (λ k. f (suc k)) (λ k. g (suc k)) x (omega arith) (λ i b. lo (suc i) (omega arith)) at (λ i b q. hi (suc i) (omega arith) (omega arith)))
+
+pub tabulate-remove : (r n : ℕ) (f g : ℕ → Row) → r ≤ n → ((i : ℕ) → i < r → g i ≡ f i) → ((i : ℕ) → r ≤ i → i < n → g i ≡ f (suc i))
+    → tabulate n g ≡ removeAt r (tabulate (suc n) f)
+unfolding tabulate removeAt
+tabulate-remove zero n f g h lo hi = tabulate-same n (λ k. f (suc k)) g (λ i b. hi i (omega arith) b)
+tabulate-remove (suc r) zero f g h lo hi = absurd (omega arith)
+tabulate-remove (suc r) (suc n) f g h lo hi =
+    ap (λ (y : Row). y ∷ tabulate n (λ k. g (suc k))) (lo zero (omega arith))
+    ∙ rw suc-add (ap (λ (l : List Row). f zero ∷ l)
+    (tabulate-remove r n (λ k. f (suc k)) (λ k. g (suc k)) (omega arith) (λ i b. lo (suc i) (omega arith)) (λ i b q. hi (suc i) (omega arith) (omega arith))))
+
+pub length-tabulate : (n : ℕ) (f : ℕ → Row) → length (tabulate n f) ≡ n
+unfolding tabulate
+length-tabulate zero f = refl
+length-tabulate (suc n) f = ap suc (length-tabulate n (λ k. f (suc k)))
+
+pub getD-tabulate : (n : ℕ) (f : ℕ → Row) (i : ℕ) → i < n → getD (tabulate n f) i noRow ≡ f i
+unfolding tabulate
+getD-tabulate zero f i h = absurd (omega arith)
+getD-tabulate (suc n) f zero h = refl
+getD-tabulate (suc n) f (suc i) h = getD-tabulate n (λ k. f (suc k)) i (omega arith)
+
+-- a row put in, or taken out: the number of rows, and their size
+pub length-insert : (r : ℕ) (x : Row) (l : List Row) → length (insertAt r x l) ≡ length l + 1
+unfolding insertAt
+length-insert zero x l = omega arith
+length-insert (suc r) x [] = refl
+length-insert (suc r) x (y ∷ l) = let e = length-insert r x l in omega arith
+
+pub total-insert : (r : ℕ) (x : Row) (l : List Row) → total (insertAt r x l) ≡ rowSize x + total l
+unfolding total insertAt
+total-insert zero x l = refl
+total-insert (suc r) x [] = refl
+total-insert (suc r) x (y ∷ l) = let e = total-insert r x l in omega arith
+
+pub length-remove : (r : ℕ) (l : List Row) → r < length l → length (removeAt r l) + 1 ≡ length l
+unfolding removeAt
+length-remove r [] h = absurd (omega arith)
+length-remove zero (y ∷ l) h = omega arith
+length-remove (suc r) (y ∷ l) h = let e = length-remove r l (omega arith) in rw (suc-add r 1) (omega arith)
+
+pub total-remove : (r : ℕ) (l : List Row) → r < length l → total (removeAt r l) + rowSize (getD l r noRow) ≡ total l
+unfolding total removeAt
+total-remove r [] h = absurd (omega arith)
+total-remove zero (y ∷ l) h = omega arith
+total-remove (suc r) (y ∷ l) h = let e = total-remove r l (omega arith) in rw (suc-add r 1) (omega arith)

@@ -1,0 +1,5 @@
+pub mod Buffer
+pub mod Layout
+pub mod Rows
+pub mod Packages
+pub mod Places

@@ -1,0 +1,35 @@
+-- What the inner functions do that find and move places in the heap.
+-- Assumes nothing.
+use mathlib.Core.Path.{_≡_}
+use mathlib.Core.Logic.{_⊎_}
+use mathlib.Core.List.{List}
+use Prim.Native.Nat.{ℕ, _+_, _≤_, _<_}
+use Rattle.store.specs.Buffer.{part, splice, le4}
+use Rattle.store.specs.Layout.{heapStart, heapSize, capOf, usedOf, endOf, slotAt, slotOf, offOf, sizeOf}
+use Rattle.store.specs.Rows.{rowsOf}
+use Rattle.store.specs.Packages.{Sound}
+
+-- x is the end of the n rows without the one whose k bytes lie at o: e as before, or o where these were the last, or 0 where it was the only row
+pub record EndWithout (n e o k x : ℕ) : Type 0 where
+  pub low : x ≤ e
+  pub is : (x ≡ e) ⊎ (((x ≡ o) × (o + k ≡ e)) ⊎ ((x ≡ 0) × (n ≡ 1)))
+
+-- among the first n slots, r is one of the least offset at or above c; n where there is none
+pub record Lowest (b : List ℕ) (n c r : ℕ) : Type 0 where
+  pub within : r ≤ n
+  pub above : r < n → c ≤ offOf (slotOf b r)
+  pub least : (i : ℕ) → i < n → c ≤ offOf (slotOf b i) → (r < n) × (offOf (slotOf b r) ≤ offOf (slotOf b i))
+
+-- m is b with the k bytes of row r moved down to c, where they lay before e
+pub record Settled (b m : List ℕ) (r c e k : ℕ) : Type 0 where
+  pub fits : c + k ≤ e
+  pub moved : offOf (slotOf b r) + sizeOf (slotOf b r) ≤ e
+      → (k ≡ sizeOf (slotOf b r)) × (m ≡ splice (splice b (heapStart + c) (part (heapStart + offOf (slotOf b r)) k b)) (slotAt r) (le4 c))
+
+-- m is b with its rows' bytes gathered or left where they were, so that k bytes more, if the capacity has them, fit at `at`
+pub record Placed (b m : List ℕ) (k at : ℕ) : Type 0 where
+  pub sound : Sound m
+  pub rows : rowsOf m ≡ rowsOf b
+  pub cap : capOf m ≡ capOf b
+  pub end : at ≡ endOf m
+  pub fits : usedOf b + k ≤ capOf b → at + k ≤ heapSize m

@@ -1,0 +1,92 @@
+// Numbers and runs of bytes in a buffer.
+ghost use mathlib.Core.Path.{_≡_};
+ghost use Prim.Native.Nat.{_+_, _^_, _≤_, _<_};
+ghost use lib.ListN.{length, getD};
+ghost use Rattle.store.specs.Buffer.{part, splice, num4, le4};
+
+// A byte as a number.
+pub fn wide(x: u8) -> usize
+    ensures { λ r. ⌜ (r ≡ x) × (r < 256) ⌝ }
+{
+    x as usize
+}
+
+// The byte at `at`: 0 past the end.
+pub fn byte_at(s: &[u8], at: usize) -> u8
+    ensures { λ r. ⌜ r ≡ getD (now (s .entry)) at 0 ⌝ }
+{
+    if at < s.len() { s[at] } else { 0 }
+}
+
+// The little-endian number in the four bytes from `at` on.
+pub fn get4(pkg: &[u8], at: usize) -> usize
+    requires { ⌜ at + 4 ≤ length (now pkg) ⌝ }
+    ensures { λ r. ⌜ (r ≡ num4 (now (pkg .entry)) at) × (r < 2 ^ 32) ⌝ }
+{
+    let a = wide(pkg[at]);
+    let b = wide(pkg[at + 1]);
+    let c = wide(pkg[at + 2]);
+    let d = wide(pkg[at + 3]);
+    a + 256 * b + 65536 * c + 16777216 * d
+}
+
+// Writes v as a little-endian number into the four bytes from `at` on.
+pub fn put4(pkg: &mut [u8], at: usize, v: usize)
+    requires { ⌜ (at + 4 ≤ length (now pkg)) × (v < 2 ^ 32) ⌝ }
+    ensures { λ _. ⌜ now (pkg .exit) ≡ splice (now (pkg .entry)) at (le4 v) ⌝ }
+{
+    pkg[at] = (v % 256) as u8;
+    pkg[at + 1] = (v / 256 % 256) as u8;
+    pkg[at + 2] = (v / 256 / 256 % 256) as u8;
+    pkg[at + 3] = (v / 256 / 256 / 256 % 256) as u8;
+}
+
+// Copies src into pkg from `at` on.
+pub fn copy_in(pkg: &mut [u8], at: usize, src: &[u8])
+    requires { ⌜ at + length (now src) ≤ length (now pkg) ⌝ }
+    ensures { λ _. ⌜ now (pkg .exit) ≡ splice (now (pkg .entry)) at (now (src .entry)) ⌝ }
+{
+    let mut i = 0;
+    while i < src.len() {
+        pkg[at + i] = src[i];
+        i += 1;
+    }
+}
+
+// Moves the `count` bytes from `from` on down to `to`.
+pub fn move_down(pkg: &mut [u8], from: usize, to: usize, count: usize)
+    requires { ⌜ (to ≤ from) × (from + count ≤ length (now pkg)) ⌝ }
+    ensures { λ _. ⌜ now (pkg .exit) ≡ splice (now (pkg .entry)) to (part from count (now (pkg .entry))) ⌝ }
+{
+    let mut i = 0;
+    while i < count {
+        pkg[to + i] = pkg[from + i];
+        i += 1;
+    }
+}
+
+// Moves the `count` bytes from `from` on up to `to`.
+pub fn move_up(pkg: &mut [u8], from: usize, to: usize, count: usize)
+    requires { ⌜ (from ≤ to) × (to + count ≤ length (now pkg)) ⌝ }
+    ensures { λ _. ⌜ now (pkg .exit) ≡ splice (now (pkg .entry)) to (part from count (now (pkg .entry))) ⌝ }
+{
+    let mut i = count;
+    while 0 < i {
+        i -= 1;
+        pkg[to + i] = pkg[from + i];
+    }
+}
+
+// The n bytes from `at` on, or none where the slice has not so many.
+pub fn cut(pkg: &[u8], at: usize, n: usize) -> &[u8]
+    ensures { λ r. ⌜ (length (now r) ≤ n) × (length (now r) ≤ length (now (pkg .entry))) × (at + n ≤ length (now (pkg .entry)) → now r ≡ part at n (now (pkg .entry))) ⌝ }
+{
+    if pkg.len() < at {
+        return &pkg[0..0];
+    }
+    if pkg.len() - at < n {
+        return &pkg[0..0];
+    }
+    let e = at + n;
+    &pkg[at..e]
+}

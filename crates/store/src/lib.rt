@@ -1,0 +1,24 @@
+// Rows in one lent buffer: how a package is stored.
+pub mod bytes;
+pub mod header;
+pub mod heap;
+pub mod rows;
+pub mod slots;
+
+// The header's bytes, a slot's, the number of slots, and where the heap starts.
+const HEADER_SIZE: usize = 64;
+
+const SLOT_SIZE: usize = 24;
+
+const SLOT_COUNT: usize = 640;
+
+const HEAP_START: usize = 32768;
+
+// Where the header has the capacity, the number of rows, the bytes that they use, and the end of the last.
+const CAPACITY_AT: usize = 8;
+
+const COUNT_AT: usize = 12;
+
+const USED_AT: usize = 16;
+
+const END_AT: usize = 20;

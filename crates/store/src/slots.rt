@@ -1,0 +1,77 @@
+// The slots: each tells where a row's bytes lie, how long its fields are, and its tag.
+use crate::HEADER_SIZE;
+use crate::SLOT_SIZE;
+use crate::bytes::get4;
+use crate::bytes::put4;
+ghost use mathlib.Core.Path.{_≡_};
+ghost use Prim.Native.Nat.{_+_, _^_, _≤_, _<_};
+ghost use lib.ListN.{length};
+ghost use Rattle.store.specs.Buffer.{splice, num4};
+ghost use Rattle.store.specs.Layout.{slotSize, slotCount, heapStart, slotOf, slotBytes, offOf, sizeOf};
+ghost use Rattle.store.specs.Places.{Lowest};
+
+// Writes a slot's six numbers.
+pub fn put_slot(
+    pkg: &mut [u8],
+    at: usize,
+    o: usize,
+    a: usize,
+    b: usize,
+    c: usize,
+    d: usize,
+    t: usize,
+)
+    requires { ⌜ at + slotSize ≤ length (now pkg) ⌝ }
+    requires { ⌜ (o < 2 ^ 32) × (a < 2 ^ 32) × (b < 2 ^ 32) × (c < 2 ^ 32) × (d < 2 ^ 32) × (t < 2 ^ 32) ⌝ }
+    ensures { λ _. ⌜ now (pkg .exit) ≡ splice (now (pkg .entry)) at (slotBytes o a b c d t) ⌝ }
+{
+    put4(pkg, at, o);
+    put4(pkg, at + 4, a);
+    put4(pkg, at + 8, b);
+    put4(pkg, at + 12, c);
+    put4(pkg, at + 16, d);
+    put4(pkg, at + 20, t);
+}
+
+// The number at k in slot i.
+pub fn number(pkg: &[u8], i: usize, k: usize) -> usize
+    requires { ⌜ (i < slotCount) × (k + 4 ≤ slotSize) × (heapStart ≤ length (now pkg)) ⌝ }
+    ensures { λ r. ⌜ (r ≡ num4 (slotOf (now (pkg .entry)) i) k) × (r < 2 ^ 32) ⌝ }
+{
+    get4(pkg, HEADER_SIZE + SLOT_SIZE * i + k)
+}
+
+// Where the bytes of row i lie in the heap.
+pub fn offset(pkg: &[u8], i: usize) -> usize
+    requires { ⌜ (i < slotCount) × (heapStart ≤ length (now pkg)) ⌝ }
+    ensures { λ r. ⌜ (r ≡ offOf (slotOf (now (pkg .entry)) i)) × (r < 2 ^ 32) ⌝ }
+{
+    number(pkg, i, 0)
+}
+
+// How many bytes row i has.
+pub fn size(pkg: &[u8], i: usize) -> usize
+    requires { ⌜ (i < slotCount) × (heapStart ≤ length (now pkg)) ⌝ }
+    ensures { λ r. ⌜ (r ≡ sizeOf (slotOf (now (pkg .entry)) i)) × (r < 2 ^ 34) ⌝ }
+{
+    number(pkg, i, 4) + number(pkg, i, 8) + number(pkg, i, 12) + number(pkg, i, 16)
+}
+
+// The first of the n rows whose bytes begin lowest in the heap, at or above c; n where none does.
+pub fn lowest(pkg: &[u8], n: usize, c: usize) -> usize
+    requires { ⌜ (n ≤ slotCount) × (heapStart ≤ length (now pkg)) ⌝ }
+    ensures { λ r. ⌜ Lowest (now (pkg .entry)) n c r ⌝ }
+{
+    let mut r = n;
+    let mut least: usize = 0x100000000;
+    let mut i = 0;
+    while i < n {
+        let o = offset(pkg, i);
+        if (c <= o) & (o < least) {
+            r = i;
+            least = o;
+        }
+        i += 1;
+    }
+    r
+}
