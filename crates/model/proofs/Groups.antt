@@ -1,0 +1,110 @@
+-- The items of a group stand side by side, by number; so do the relationships of a source, by id.
+-- Assumes nothing.
+use Prim.Native.Nat.{ℕ, _<_}
+use mathlib.Core.Path.{_≡_, refl, ap, sym, _∙_}
+use mathlib.Core.Bool.{Bool, true, false, not, _&&_, cond}
+use mathlib.Core.List.{List, [], _∷_}
+use native.Mathlib.Omega.{arith}
+use lib.Dec.{ltb}
+use lib.ListN.{length, getD, take, drop}
+use borrow.Author.Tests.{le-ltb}
+use Rattle.chars.specs.Lists.{same}
+use Rattle.chars.specs.Folding.{fold, equivalent, order}
+use Rattle.chars.proofs.Equivalence.{equivalent-fold, equivalent-refl}
+use Rattle.chars.proofs.Orders.{order-refl}
+use Rattle.chars.specs.declared.folding.Order.the-variants.{Less, Equal, Greater}
+use Rattle.model.specs.Sets.{Bytes, thenBy, keyOrder, isLess, before, any, Each, Pairs, Sorted}
+use Rattle.model.specs.Places.{bound, lead}
+use Rattle.model.specs.Fields.{prefixOf, suffixOf}
+use Rattle.model.specs.Package.{Item, Relationship, rank, keyOfItem, keyOfRelationship, group}
+use Rattle.model.specs.Texts.{ofSource}
+use Rattle.model.proofs.Lists.{pairs-those}
+use Rattle.model.proofs.KeyOrders.{goes-on-less}
+use Rattle.model.proofs.Keys.{number-less}
+use Rattle.model.proofs.Spans.{span-past, span-from, span, headed-bound}
+
+-- the test of a group
+abbrev pub alike : Bytes → Item → Bool
+alike p i = equivalent (prefixOf (i .name)) p
+
+abbrev pub unlike : Bytes → Item → Bool
+unlike p i = not (alike p i)
+
+pub own : (x : Item) → alike (prefixOf (x .name)) x ≡ true
+own x = equivalent-refl (prefixOf (x .name))
+
+-- equivalent prefixes have the same group
+pub alike-same : (p q : Bytes) → fold p ≡ fold q → (i : Item) → alike p i ≡ alike q i
+unfolding equivalent
+alike-same p q e i = ap (same (fold (prefixOf (i .name)))) e
+
+-- the item x of the group p, and those after it, up to the first that is not of the group
+module _ (x : Item) (p : Bytes) (m : alike p x ≡ true) where
+  pub group-past : (ys : List Item) → Sorted keyOfItem (x ∷ ys) → Each (λ (i : Item). alike p i ≡ false) (drop (lead (alike p) ys) ys)
+  unfolding equivalent
+  group-past ys s = span-past keyOfItem (fold p) x ys m s
+
+  pub group-from : (ys : List Item) → Sorted keyOfItem (x ∷ ys) → group p (x ∷ ys) ≡ x ∷ take (lead (alike p) ys) ys
+  unfolding group equivalent
+  group-from ys s = span-from keyOfItem (fold p) x ys m s
+
+-- a rank is not before 0, an id not before the empty text
+least-rank : (t : Bytes) (n : ℕ) → before (t, n ∷ []) (t, 0 ∷ []) ≡ false
+unfolding keyOrder thenBy order
+least-rank t n = rw (order-refl t, le-ltb n 0 (omega arith)) (go (ltb 0 n))
+  where
+    go : (b : Bool) → isLess (cond b Greater Equal) ≡ false
+    go true = refl
+    go false = refl
+
+least-id : (t u : Bytes) → before (t, u) (t, []) ≡ false
+unfolding keyOrder thenBy order
+least-id t u = rw (order-refl t) (go u)
+  where
+    go : (u : Bytes) → isLess (order u []) ≡ false
+    go [] = refl
+    go (x ∷ u) = refl
+
+least-item : (p : Bytes) (i : Item) → fold (prefixOf (i .name)) ≡ fold p → before (keyOfItem i) (fold p, 0 ∷ []) ≡ false
+least-item p i e = ap (λ (t : Bytes). before (t, rank (suffixOf (i .name)) ∷ []) (fold p, 0 ∷ [])) e ∙ least-rank (fold p) (rank (suffixOf (i .name)))
+
+-- the group p is the run from the first item that is not before (p folded, rank 0)
+pub group-run :
+    (p : Bytes) (xs : List Item) → Sorted keyOfItem xs →
+    group p xs ≡ take (lead (alike p) (drop (bound keyOfItem (fold p, 0 ∷ []) xs) xs)) (drop (bound keyOfItem (fold p, 0 ∷ []) xs) xs)
+unfolding group equivalent
+group-run p xs s = span keyOfItem (fold p) (0 ∷ []) (least-item p) xs s
+
+-- some item is of the group p if and only if the one at that bound is
+pub alike-bound :
+    (p : Bytes) (xs : List Item) (d : Item) → Sorted keyOfItem xs →
+    any (alike p) xs ≡ (ltb (bound keyOfItem (fold p, 0 ∷ []) xs) (length xs) && alike p (getD xs (bound keyOfItem (fold p, 0 ∷ []) xs) d))
+unfolding equivalent
+alike-bound p xs d s = headed-bound keyOfItem (fold p) (0 ∷ []) (least-item p) xs d s
+
+-- the relationships of a source are the run from the first that is not before (the source folded, no id)
+pub source-run :
+    (s : Bytes) (rs : List Relationship) → Sorted keyOfRelationship rs →
+    ofSource s rs
+    ≡ take (lead (λ (r : Relationship). equivalent (r .source) s) (drop (bound keyOfRelationship (fold s, []) rs) rs)) (drop (bound keyOfRelationship (fold s, []) rs) rs)
+unfolding equivalent
+source-run s rs o = span keyOfRelationship (fold s) [] least rs o
+  where
+    least : (r : Relationship) → fold (r .source) ≡ fold s → before (keyOfRelationship r) (fold s, []) ≡ false
+    least r e = ap (λ (t : Bytes). before (t, r .id) (fold s, [])) e ∙ least-id (fold s) (r .id)
+
+-- the pieces of a group stand by number: "the pieces joined by number"
+pub group-numbered : (p : Bytes) (xs : List Item) → Sorted keyOfItem xs → Pairs (λ (i j : Item). rank (suffixOf (i .name)) < rank (suffixOf (j .name))) (group p xs)
+unfolding group order
+group-numbered p xs s =
+    pairs-those (λ (i j : Item). before (keyOfItem i) (keyOfItem j) ≡ true) (λ (i j : Item). rank (suffixOf (i .name)) < rank (suffixOf (j .name))) (alike p) xs
+    (λ i j a b l. number-less (rank (suffixOf (i .name))) (rank (suffixOf (j .name)))
+    (goes-on-less (keyOfItem i) (keyOfItem j) l (equivalent-fold (prefixOf (i .name)) p a ∙ sym (equivalent-fold (prefixOf (j .name)) p b))))
+    s
+
+-- the relationships of a source stand "by id bytes"
+pub source-by-id : (s : Bytes) (rs : List Relationship) → Sorted keyOfRelationship rs → Pairs (λ (q r : Relationship). order (q .id) (r .id) ≡ Less) (ofSource s rs)
+source-by-id s rs o =
+    pairs-those (λ (q r : Relationship). before (keyOfRelationship q) (keyOfRelationship r) ≡ true) (λ (q r : Relationship). order (q .id) (r .id) ≡ Less)
+    (λ (r : Relationship). equivalent (r .source) s) rs
+    (λ q r a b l. goes-on-less (keyOfRelationship q) (keyOfRelationship r) l (equivalent-fold (q .source) s a ∙ sym (equivalent-fold (r .source) s b))) o

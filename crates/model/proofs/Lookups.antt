@@ -1,0 +1,153 @@
+-- What is found after an insertion and after a removal; a sorted list is known by what is found in it.
+-- Assumes nothing.
+use Prim.Native.Nat.{ℕ, suc, _+_}
+use mathlib.Core.Path.{_≡_, refl, ap, ap₂, sym, _∙_}
+use mathlib.Core.Bool.{Bool, true, false, _||_, cond, true≢false}
+use mathlib.Core.List.{List, [], _∷_}
+use mathlib.Core.Option.{none, some}
+use native.Mathlib.Omega.{arith}
+use lib.ListN.{length}
+use Rattle.model.specs.Sets.{Key, before, sameKey, held, any, sumOf, lookup, insert, remove, Each, Sorted}
+use Rattle.model.proofs.Lists.{each-map}
+use Rattle.model.proofs.KeyOrders.{same-before, before-trans, before-turn, same-key-refl, before-not-same, same-key-trans}
+
+pub none-some : {E : Type 0} (x : E) → none ≡ some x → ⊥
+none-some x e = let z : _≡_ {A = ℕ} 0 1 = cc in omega arith
+
+pub some-eq : {E : Type 0} (x y : E) → some x ≡ some y → x ≡ y
+some-eq x y e = cc
+
+module _ {E : Type 0} (key : E → Key) where
+  -- another key is found as before
+  pub lookup-insert-other : (k : Key) (e : E) (xs : List E) → sameKey k (key e) ≡ false → lookup key k (insert key e xs) ≡ lookup key k xs
+  unfolding insert lookup
+  lookup-insert-other k e [] n = rw n
+  lookup-insert-other k e (x ∷ xs) n = go (before (key e) (key x)) (sameKey k (key x)) refl (lookup-insert-other k e xs n)
+    where
+      go :
+          (b c : Bool) → sameKey k (key x) ≡ c → lookup key k (insert key e xs) ≡ lookup key k xs →
+          lookup key k (cond b (e ∷ x ∷ xs) (x ∷ insert key e xs)) ≡ cond c (some x) (lookup key k xs)
+      go true c f h = rw (n, f)
+      go false true f h = rw f
+      go false false f h = rw f h
+
+  pub lookup-remove-other : (k j : Key) (xs : List E) → sameKey k j ≡ false → lookup key k (remove key j xs) ≡ lookup key k xs
+  unfolding remove lookup
+  lookup-remove-other k j [] n = refl
+  lookup-remove-other k j (x ∷ xs) n = go (sameKey j (key x)) refl (sameKey k (key x)) refl (lookup-remove-other k j xs n)
+    where
+      go :
+          (b : Bool) → sameKey j (key x) ≡ b → (c : Bool) → sameKey k (key x) ≡ c → lookup key k (remove key j xs) ≡ lookup key k xs →
+          lookup key k (cond b xs (x ∷ remove key j xs)) ≡ cond c (some x) (lookup key k xs)
+      go true e true f h = absurd (true≢false (sym (same-key-trans k j (key x) f e) ∙ n))
+      go true e false f h = refl
+      go false e true f h = rw f
+      go false e false f h = rw f h
+
+  -- a key that stands before all others is not found behind
+  past-none : (k : Key) (xs : List E) → Each (λ (x : E). before k (key x) ≡ true) xs → lookup key k xs ≡ none
+  unfolding lookup
+  past-none k [] h = refl
+  past-none k (x ∷ xs) h = rw (before-not-same k (key x) (h .0)) (past-none k xs (h .1))
+
+  -- what was taken out is not found
+  pub lookup-removed : (k : Key) (xs : List E) → Sorted key xs → lookup key k (remove key k xs) ≡ none
+  unfolding remove lookup
+  lookup-removed k [] s = refl
+  lookup-removed k (x ∷ xs) s = go (sameKey k (key x)) refl (lookup-removed k xs (s .1))
+    where
+      go : (b : Bool) → sameKey k (key x) ≡ b → lookup key k (remove key k xs) ≡ none → lookup key k (cond b xs (x ∷ remove key k xs)) ≡ none
+      go true e h =
+          past-none k xs
+          (each-map (λ (y : E). before (key x) (key y) ≡ true) (λ (y : E). before k (key y) ≡ true) xs (λ y l. same-before k (key x) (key y) e l) (s .0))
+      go false e h = rw e h
+
+  lookup-head : (k : Key) (x : E) (xs : List E) → sameKey k (key x) ≡ true → lookup key k (x ∷ xs) ≡ some x
+  unfolding lookup
+  lookup-head k x xs e = rw e
+
+  lookup-tail : (k : Key) (x : E) (xs : List E) → sameKey k (key x) ≡ false → lookup key k (x ∷ xs) ≡ lookup key k xs
+  unfolding lookup
+  lookup-tail k x xs e = rw e
+
+  -- equal sets are equal lists: a sorted list is known by what is found in it
+  pub sorted-unique : (xs ys : List E) → Sorted key xs → Sorted key ys → ((k : Key) → lookup key k xs ≡ lookup key k ys) → xs ≡ ys
+  unfolding lookup
+  sorted-unique [] [] s t h = refl
+  sorted-unique [] (y ∷ ys) s t h = absurd (none-some y (h (key y) ∙ lookup-head (key y) y ys (same-key-refl (key y))))
+  sorted-unique (x ∷ xs) [] s t h = absurd (none-some x (sym (h (key x)) ∙ lookup-head (key x) x xs (same-key-refl (key x))))
+  sorted-unique (x ∷ xs) (y ∷ ys) s t h = ap₂ _∷_ heads (sorted-unique xs ys (s .1) (t .1) tails)
+    where
+      -- a head that stands before the other list is not found there
+      not-before : (a b : E) (aa bs : List E) → Sorted key (b ∷ bs) → ((k : Key) → lookup key k (a ∷ aa) ≡ lookup key k (b ∷ bs)) → before (key a) (key b) ≡ true → ⊥
+      not-before a b aa bs s h l =
+          none-some a
+          (sym
+          (past-none (key a) (b ∷ bs)
+          (l, each-map (λ (z : E). before (key b) (key z) ≡ true) (λ (z : E). before (key a) (key z) ≡ true) bs (λ z m. before-trans (key a) (key b) (key z) l m) (s .0)))
+          ∙ sym (h (key a)) ∙ lookup-head (key a) a aa (same-key-refl (key a)))
+
+      one-key : (b c : Bool) → before (key x) (key y) ≡ b → sameKey (key x) (key y) ≡ c → sameKey (key x) (key y) ≡ true
+      one-key true c e f = absurd (not-before x y xs ys t h e)
+      one-key false true e f = f
+      one-key false false e f = absurd (not-before y x ys xs s (λ k. sym (h k)) (before-turn (key x) (key y) e f))
+
+      heads : x ≡ y
+      heads =
+          some-eq x y
+          (sym (lookup-head (key x) x xs (same-key-refl (key x))) ∙ h (key x) ∙ lookup-head (key x) y ys (one-key (before (key x) (key y)) (sameKey (key x) (key y)) refl refl))
+
+      tails : (k : Key) → lookup key k xs ≡ lookup key k ys
+      tails k = go (sameKey k (key x)) refl
+        where
+          go : (b : Bool) → sameKey k (key x) ≡ b → lookup key k xs ≡ lookup key k ys
+          go true e =
+              past-none k xs (each-map (λ (z : E). before (key x) (key z) ≡ true) (λ (z : E). before k (key z) ≡ true) xs (λ z l. same-before k (key x) (key z) e l) (s .0))
+              ∙ sym
+              (past-none k ys
+              (each-map (λ (z : E). before (key y) (key z) ≡ true) (λ (z : E). before k (key z) ≡ true) ys
+              (λ z l. same-before k (key y) (key z) (sym (ap (λ (w : E). sameKey k (key w)) heads) ∙ e) l) (t .0)))
+          go false e = sym (lookup-tail k x xs e) ∙ h k ∙ lookup-tail k y ys (sym (ap (λ (w : E). sameKey k (key w)) heads) ∙ e)
+
+  -- an entry is held where a key is the same
+  pub held-any : (k : Key) (xs : List E) → held (lookup key k xs) ≡ any (λ (x : E). sameKey k (key x)) xs
+  unfolding any lookup
+  held-any k [] = refl
+  held-any k (x ∷ xs) = go (sameKey k (key x)) (held-any k xs)
+    where
+      go : (t : Bool) → held (lookup key k xs) ≡ any (λ (x : E). sameKey k (key x)) xs → held (cond t (some x) (lookup key k xs)) ≡ (t || any (λ (x : E). sameKey k (key x)) xs)
+      go true e = refl
+      go false e = e
+
+  -- the entry that is found has the key
+  pub lookup-key : (k : Key) (xs : List E) (e : E) → lookup key k xs ≡ some e → sameKey k (key e) ≡ true
+  unfolding lookup
+  lookup-key k [] e h = absurd (none-some e h)
+  lookup-key k (x ∷ xs) e h = go (sameKey k (key x)) refl h (lookup-key k xs e)
+    where
+      go : (b : Bool) → sameKey k (key x) ≡ b → cond b (some x) (lookup key k xs) ≡ some e → (lookup key k xs ≡ some e → sameKey k (key e) ≡ true) → sameKey k (key e) ≡ true
+      go true f h ih = let m : x ≡ e = some-eq x e h in ap (λ (y : E). sameKey k (key y)) (sym m) ∙ f
+      go false f h ih = ih h
+
+  -- what a removal takes away
+  pub sum-removed : (f : E → ℕ) (k : Key) (xs : List E) (e : E) → lookup key k xs ≡ some e → sumOf f (remove key k xs) + f e ≡ sumOf f xs
+  unfolding lookup remove sumOf
+  sum-removed f k [] e h = let z : _≡_ {A = ℕ} 0 1 = cc in absurd (omega arith)
+  sum-removed f k (x ∷ xs) e h = go (sameKey k (key x)) h (sum-removed f k xs e)
+    where
+      go :
+          (b : Bool) → cond b (some x) (lookup key k xs) ≡ some e → (lookup key k xs ≡ some e → sumOf f (remove key k xs) + f e ≡ sumOf f xs) →
+          sumOf f (cond b xs (x ∷ remove key k xs)) + f e ≡ f x + sumOf f xs
+      go true l h = let m : x ≡ e = cc in omega (arith, ap f m)
+      go false l h = omega (arith, h l)
+
+  pub length-removed : (k : Key) (xs : List E) (e : E) → lookup key k xs ≡ some e → suc (length (remove key k xs)) ≡ length xs
+  unfolding lookup remove
+  length-removed k [] e h = let z : _≡_ {A = ℕ} 0 1 = cc in absurd (omega arith)
+  length-removed k (x ∷ xs) e h = go (sameKey k (key x)) h (length-removed k xs e)
+    where
+      go :
+          (b : Bool) → cond b (some x) (lookup key k xs) ≡ some e → (lookup key k xs ≡ some e → suc (length (remove key k xs)) ≡ length xs) →
+          suc (length (cond b xs (x ∷ remove key k xs))) ≡ suc (length xs)
+      go true l h = refl
+      go false l h = ap suc (h l)

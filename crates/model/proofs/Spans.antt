@@ -1,0 +1,117 @@
+-- In a sorted set the entries whose keys begin alike stand side by side.
+-- Assumes nothing.
+use Prim.Native.Nat.{ℕ, suc}
+use mathlib.Core.Path.{_≡_, refl, ap, ap₂, sym, _∙_}
+use mathlib.Core.Bool.{Bool, true, false, not, _&&_, _||_, cond, true≢false}
+use mathlib.Core.List.{List, [], _∷_, _++_}
+use lib.Dec.{ltb}
+use lib.ListN.{length, getD, take, drop, take-append-drop}
+use borrow.Author.Tests.{not-true, not-false}
+use Rattle.chars.specs.Lists.{same}
+use Rattle.chars.specs.Folding.{order}
+use Rattle.chars.specs.declared.folding.Order.{Order}
+use Rattle.chars.specs.declared.folding.Order.the-variants.{Less}
+use Rattle.chars.proofs.Equivalence.{same-eq, eq-same}
+use Rattle.model.specs.Sets.{Bytes, Key, thenBy, keyOrder, isLess, before, any, those, Each, Sorted}
+use Rattle.model.specs.Places.{firstWhere, bound, lead}
+use Rattle.model.proofs.Bools.{not-passing}
+use Rattle.model.proofs.Lists.{each-map, pairs-map, pairs-drop, pairs-both, pairs-each, append-nil, any-append, none-any, any-head, head-of-drop, those-append, those-all, those-none}
+use Rattle.model.proofs.KeyOrders.{between, begins-less}
+use Rattle.model.proofs.Walks.{first-fails, first-rest, lead-take}
+use Rattle.model.proofs.Places.{not-before-monotone}
+
+module _ {E : Type 0} (key : E → Key) (t : Bytes) where
+  -- the key begins with the text t
+  abbrev pub headed : E → Bool
+  headed x = same (key x .0) t
+
+  -- behind an entry of the text and one of another, none has it
+  later : (x y z : E) → headed x ≡ true → headed y ≡ false → before (key x) (key y) ≡ true → before (key y) (key z) ≡ true → headed z ≡ false
+  later x y z m n l k = not-passing (headed z) (λ e. true≢false (sym (eq-same (key y .0) t (sym (x-y e) ∙ x-t)) ∙ n))
+    where
+      x-t : key x .0 ≡ t
+      x-t = same-eq (key x .0) t m
+
+      x-y : headed z ≡ true → key x .0 ≡ key y .0
+      x-y e = between (key x) (key y) (key z) l k (x-t ∙ sym (same-eq (key z .0) t e))
+
+  -- behind the run from x no other entry has the text
+  pub span-past : (x : E) (ys : List E) → headed x ≡ true → Sorted key (x ∷ ys) → Each (λ (y : E). headed y ≡ false) (drop (lead headed ys) ys)
+  unfolding firstWhere
+  span-past x [] m s = tt
+  span-past x (y ∷ ys) m s = go (headed y) refl (span-past x ys m (s .0 .1, s .1 .1))
+    where
+      go :
+          (b : Bool) → headed y ≡ b → Each (λ (z : E). headed z ≡ false) (drop (lead headed ys) ys) →
+          Each (λ (z : E). headed z ≡ false) (drop (cond (not b) 0 (suc (lead headed ys))) (y ∷ ys))
+      go true e h = h
+      go false e h = (e, each-map (λ (z : E). before (key y) (key z) ≡ true) (λ (z : E). headed z ≡ false) ys (λ z k. later x y z m e (s .0 .0) k) (s .1 .0))
+
+  -- those of the text, where the first entry is one: a run from the start
+  pub span-from : (x : E) (ys : List E) → headed x ≡ true → Sorted key (x ∷ ys) → those headed (x ∷ ys) ≡ x ∷ take (lead headed ys) ys
+  unfolding those
+  span-from x ys m s =
+      let n = lead headed ys in
+      rw m
+      (ap (λ (l : List E). x ∷ l)
+      (ap (those headed) (sym (take-append-drop n ys))
+      ∙ those-append headed (take n ys) (drop n ys)
+      ∙ ap₂ _++_ (those-all headed (take n ys) (lead-take headed ys)) (those-none headed (drop n ys) (span-past x ys m s))
+      ∙ append-nil (take n ys)))
+
+  -- those of the text: the run from the bound of a key (t, u) that no key of the text is before
+  module _ (u : Bytes) (least : (x : E) → key x .0 ≡ t → before (key x) (t, u) ≡ false) where
+    -- behind an entry of another text that is not before (t, u), none has the text
+    greater : (x z : E) → headed x ≡ false → before (key x) (t, u) ≡ false → before (key x) (key z) ≡ true → headed z ≡ false
+    unfolding keyOrder thenBy
+    greater x z n b l = not-passing (headed z) (λ e. true≢false (sym (less e) ∙ b))
+      where
+        less : headed z ≡ true → before (key x) (t, u) ≡ true
+        less e =
+            let z-t : key z .0 ≡ t = same-eq (key z .0) t e in
+            let f : order (key x .0) (key z .0) ≡ Less = begins-less (key x) (key z) l (λ q. true≢false (sym (eq-same (key x .0) t (q ∙ z-t)) ∙ n)) in
+            ap (λ (o : Order). isLess (thenBy o (order (key x .1) u))) (ap (order (key x .0)) (sym z-t) ∙ f)
+
+    pub span : (xs : List E) → Sorted key xs → those headed xs ≡ take (lead headed (drop (bound key (t, u) xs) xs)) (drop (bound key (t, u) xs) xs)
+    unfolding those firstWhere
+    span [] s = refl
+    span (x ∷ xs) s = go (before (key x) (t, u)) refl (headed x) refl (span xs (s .1))
+      where
+        n : ℕ
+        n = bound key (t, u) xs
+
+        go :
+            (b : Bool) → before (key x) (t, u) ≡ b → (h : Bool) → headed x ≡ h → those headed xs ≡ take (lead headed (drop n xs)) (drop n xs) →
+            cond h (x ∷ those headed xs) (those headed xs) ≡ take (lead headed (drop (cond (not b) 0 (suc n)) (x ∷ xs))) (drop (cond (not b) 0 (suc n)) (x ∷ xs))
+        go true b true h ih = absurd (true≢false (sym b ∙ least x (same-eq (key x .0) t h)))
+        go true b false h ih = ih
+        go false b true h ih = sym (ap (λ (c : Bool). cond c (x ∷ those headed xs) (those headed xs)) h) ∙ span-from x xs h s ∙ sym (rw h)
+        go false b false h ih =
+            those-none headed xs (each-map (λ (z : E). before (key x) (key z) ≡ true) (λ (z : E). headed z ≡ false) xs (λ z l. greater x z h b l) (s .0)) ∙ sym (rw h)
+
+    -- some entry has the text if and only if the one at the bound does
+    pub headed-bound : (xs : List E) (d : E) → Sorted key xs → any headed xs ≡ (ltb (bound key (t, u) xs) (length xs) && headed (getD xs (bound key (t, u) xs) d))
+    headed-bound xs d s =
+        ap (any headed) (sym (take-append-drop n xs))
+        ∙ any-append headed (take n xs) (drop n xs)
+        ∙ ap (λ (b : Bool). b || any headed (drop n xs)) (none-any headed (take n xs) (each-map (λ (x : E). not (before (key x) (t, u)) ≡ false) (λ (x : E). headed x ≡ false) (take n xs) none-before
+        (first-fails (λ (x : E). not (before (key x) (t, u))) xs)))
+        ∙ any-head headed (drop n xs) d
+        (pairs-map (λ (x z : E). before (key x) (key z) ≡ true × (NotBefore x × NotBefore z)) (λ (x z : E). headed z ≡ true → headed x ≡ true) (drop n xs)
+        (λ x z h e. head x z (headed x) refl h e)
+        (pairs-both (λ (x z : E). before (key x) (key z) ≡ true) (λ (x z : E). NotBefore x × NotBefore z) (drop n xs) (pairs-drop (λ (x z : E). before (key x) (key z) ≡ true) n xs s)
+        (pairs-each NotBefore (drop n xs) (first-rest (λ (x : E). not (before (key x) (t, u))) xs (not-before-monotone key (t, u) xs s)))))
+        ∙ head-of-drop headed n xs d
+      where
+        n : ℕ
+        n = bound key (t, u) xs
+
+        NotBefore : E → Type 0
+        NotBefore x = not (before (key x) (t, u)) ≡ true
+
+        none-before : (x : E) → not (before (key x) (t, u)) ≡ false → headed x ≡ false
+        none-before x e = not-passing (headed x) (λ h. true≢false (sym (not-false (before (key x) (t, u)) e) ∙ least x (same-eq (key x .0) t h)))
+
+        head : (x z : E) (b : Bool) → headed x ≡ b → before (key x) (key z) ≡ true × (NotBefore x × NotBefore z) → headed z ≡ true → b ≡ true
+        head x z true f h e = refl
+        head x z false f h e = absurd (true≢false (sym e ∙ greater x z f (not-true (before (key x) (t, u)) (h .1 .0)) (h .0)))

@@ -1,0 +1,300 @@
+-- What each call answers, and the package after it: document 01's ledger, call by call.
+-- Assumes nothing.
+use Prim.Native.Nat.{ℕ, _+_, _-_}
+use mathlib.Core.Bool.{Bool, true, false, not, _||_, cond}
+use mathlib.Core.List.{List, [], _∷_, _++_}
+use mathlib.Core.Option.{Option, none, some}
+use lib.Dec.{leb, ltb, eqb}
+use lib.ListN.{length, getD, take, drop, replicate}
+use Rattle.iri.specs.Answers.{Answer, answer}
+use Rattle.iri.specs.References.{resolve}
+use Rattle.iri.specs.Targets.{resolvePath}
+use Rattle.iri.specs.Pack.{unfragmented, packIri}
+use Rattle.model.specs.Sets.{Bytes, held, any, lookup, insert, remove}
+use Rattle.model.specs.Fields.{when, first, prefixOf, suffixOf, askedField, itemField, partField, extensionField, sourceField, idField, packageField, defaultFields, overrideFields, relationshipFields}
+use Rattle.model.specs.Package.{Item, Default, Override, Relationship, State, itemLimit, defaultLimit, overrideLimit, relationshipLimit, empty, itemKey, nameKey, relationshipKey, keyOfItem, keyOfDefault, keyOfOverride, keyOfRelationship, charge, group, isPart, content, spelling, parts, disagrees, grows, itemAt, mediaTypeOf}
+use Rattle.model.specs.Texts.{typesText, relationshipsText}
+
+-- a call that only looks
+pub data Look : Type 0 where
+  Find : (name : Bytes) → Look
+  View : (name : Bytes) → Look
+  Totals : Look
+
+-- a call that changes the package
+pub data Change : Type 0 where
+  PutItem : (name bytes : Bytes) → Change
+  DropItem : (name : Bytes) → Change
+  PutDefault : (extension type : Bytes) → Change
+  DropDefault : (extension : Bytes) → Change
+  PutOverride : (name type : Bytes) → Change
+  DropOverride : (name : Bytes) → Change
+  PutRelationship : (source id type : Bytes) (mode : ℕ) (target : Bytes) → Change
+  DropRelationship : (source id : Bytes) → Change
+
+-- a call that writes into a lent output
+pub data Print : Type 0 where
+  ReadPart : (name : Bytes) (offset : ℕ) → Print
+  MediaType : (name : Bytes) → Print
+  PartAt : (position : ℕ) → Print
+  ResolveRelationship : (source id base : Bytes) → Print
+  WriteTypes : Print
+  WriteRelationships : (source : Bytes) → Print
+
+-- a call with its inputs: "the bytes that an output held before, are inputs of the ledger too". Its `Answer` is what is compared: "for every
+-- call, the number, all values and every byte of each output, written or kept; for view the bytes of its part"
+pub data Call : Type 0 where
+  Start : (C : ℕ) → Call
+  Looks : Look → Call
+  Changes : Change → Call
+  Prints : Print → (output : Bytes) → Call
+
+-- "An accepted call answers 0 and its value, or 0 and 0 where none is named"
+abbrev pub done : Answer
+done = answer 0 (0 ∷ []) []
+
+-- "A refusal answers its number and 0 for every value"
+abbrev pub refused : ℕ → Answer
+refused n = answer n (0 ∷ []) []
+
+abbrev pub choose : Bool → Answer → Answer → Answer
+choose true a b = a
+choose false a b = b
+
+abbrev pub pick : Bool → Answer × State → Answer × State → Answer × State
+pick true a b = a
+pick false a b = b
+
+-- a change of S into T, unless refused by the number n: then "package and outputs stay unchanged"
+abbrev pub changed : ℕ → State → State → Answer × State
+changed n S T = pick (eqb n 0) (done, T) (refused n, S)
+
+-- START. "2 at start, C above 1,000,000 or the buffer too short"; "The lent package is at least C + 32,768 bytes". room is its length
+abbrev pub capacityLimit : ℕ
+capacityLimit = 1000000
+
+abbrev pub overhead : ℕ
+overhead = 32768
+
+unfoldable pub startRefusal : ℕ → ℕ → ℕ
+startRefusal room C = when (ltb capacityLimit C || ltb room (C + overhead)) 2
+
+-- CHANGES. Refusals by "the fields as listed, a name by 6, 4, 5; then 10, 12, 11, 13, 14, 15"
+abbrev pub withItems : State → List Item → State
+withItems S l = record { capacity = S .capacity; items = l; defaults = S .defaults; overrides = S .overrides; relationships = S .relationships }
+
+abbrev pub withDefaults : State → List Default → State
+withDefaults S l = record { capacity = S .capacity; items = S .items; defaults = l; overrides = S .overrides; relationships = S .relationships }
+
+abbrev pub withOverrides : State → List Override → State
+withOverrides S l = record { capacity = S .capacity; items = S .items; defaults = S .defaults; overrides = l; relationships = S .relationships }
+
+abbrev pub withRelationships : State → List Relationship → State
+withRelationships S l = record { capacity = S .capacity; items = S .items; defaults = S .defaults; overrides = S .overrides; relationships = l }
+
+-- "15 a set is full or the charge would pass C"
+abbrev pub noRoom : ℕ → ℕ → ℕ → State → Bool
+noRoom limit count added S = leb limit count || ltb (S .capacity) (charge S + added)
+
+-- a new item name beside the held items. "10 taken: both whole, or same k in the group (last mark or not)": one key; 12; 11
+unfoldable pub clash : Bytes → List Item → ℕ
+clash name is =
+    first
+    (when (held (lookup keyOfItem (itemKey name) is)) 10
+    ∷ when (any (λ (i : Item). disagrees (suffixOf name) (suffixOf (i .name))) (group (prefixOf name) is)) 12
+    ∷ when (any (λ (i : Item). grows (prefixOf name) (prefixOf (i .name))) is) 11
+    ∷ [])
+
+unfoldable pub putItemRefusal : State → Bytes → Bytes → ℕ
+putItemRefusal S name bytes =
+    first
+    (itemField name
+    ∷ clash name (S .items)
+    ∷ when (noRoom itemLimit (length (S .items)) (length name + length bytes) S) 15
+    ∷ [])
+
+unfoldable pub dropItemRefusal : State → Bytes → ℕ
+dropItemRefusal S name =
+    first
+    (itemField name
+    ∷ when (not (held (itemAt name (S .items)))) 13
+    ∷ [])
+
+unfoldable pub putDefaultRefusal : State → Bytes → Bytes → ℕ
+putDefaultRefusal S extension type =
+    first
+    (defaultFields extension type
+    ∷ when (held (lookup keyOfDefault (nameKey extension) (S .defaults))) 10
+    ∷ when (noRoom defaultLimit (length (S .defaults)) (length extension + length type) S) 15
+    ∷ [])
+
+unfoldable pub dropDefaultRefusal : State → Bytes → ℕ
+dropDefaultRefusal S extension =
+    first
+    (extensionField extension
+    ∷ when (not (held (lookup keyOfDefault (nameKey extension) (S .defaults)))) 13
+    ∷ [])
+
+unfoldable pub putOverrideRefusal : State → Bytes → Bytes → ℕ
+putOverrideRefusal S name type =
+    first
+    (overrideFields name type
+    ∷ when (held (lookup keyOfOverride (nameKey name) (S .overrides))) 10
+    ∷ when (noRoom overrideLimit (length (S .overrides)) (length name + length type) S) 15
+    ∷ [])
+
+unfoldable pub dropOverrideRefusal : State → Bytes → ℕ
+dropOverrideRefusal S name =
+    first
+    (partField name
+    ∷ when (not (held (lookup keyOfOverride (nameKey name) (S .overrides)))) 13
+    ∷ [])
+
+unfoldable pub putRelationshipRefusal : State → Bytes → Bytes → Bytes → ℕ → Bytes → ℕ
+putRelationshipRefusal S source id type mode target =
+    first
+    (relationshipFields source id type mode target
+    ∷ when (held (lookup keyOfRelationship (relationshipKey source id) (S .relationships))) 10
+    ∷ when (noRoom relationshipLimit (length (S .relationships)) (length source + length id + length type + length target) S) 15
+    ∷ [])
+
+unfoldable pub dropRelationshipRefusal : State → Bytes → Bytes → ℕ
+dropRelationshipRefusal S source id =
+    first
+    (sourceField source
+    ∷ idField id
+    ∷ when (not (held (lookup keyOfRelationship (relationshipKey source id) (S .relationships)))) 13
+    ∷ [])
+
+abbrev pub changeRefusal : State → Change → ℕ
+changeRefusal S (PutItem name bytes) = putItemRefusal S name bytes
+changeRefusal S (DropItem name) = dropItemRefusal S name
+changeRefusal S (PutDefault extension type) = putDefaultRefusal S extension type
+changeRefusal S (DropDefault extension) = dropDefaultRefusal S extension
+changeRefusal S (PutOverride name type) = putOverrideRefusal S name type
+changeRefusal S (DropOverride name) = dropOverrideRefusal S name
+changeRefusal S (PutRelationship source id type mode target) = putRelationshipRefusal S source id type mode target
+changeRefusal S (DropRelationship source id) = dropRelationshipRefusal S source id
+
+-- the package after an accepted change: "Every field keeps its given spelling."
+abbrev pub changeMade : State → Change → State
+changeMade S (PutItem name bytes) = withItems S (insert keyOfItem (record { name = name; bytes = bytes }) (S .items))
+changeMade S (DropItem name) = withItems S (remove keyOfItem (itemKey name) (S .items))
+changeMade S (PutDefault extension type) = withDefaults S (insert keyOfDefault (record { extension = extension; type = type }) (S .defaults))
+changeMade S (DropDefault extension) = withDefaults S (remove keyOfDefault (nameKey extension) (S .defaults))
+changeMade S (PutOverride name type) = withOverrides S (insert keyOfOverride (record { name = name; type = type }) (S .overrides))
+changeMade S (DropOverride name) = withOverrides S (remove keyOfOverride (nameKey name) (S .overrides))
+changeMade S (PutRelationship source id type mode target) =
+    withRelationships S (insert keyOfRelationship (record { source = source; id = id; type = type; mode = mode; target = target }) (S .relationships))
+changeMade S (DropRelationship source id) = withRelationships S (remove keyOfRelationship (relationshipKey source id) (S .relationships))
+
+unfoldable pub change : State → Change → Answer × State
+change S c = changed (changeRefusal S c) S (changeMade S c)
+
+-- LOOKS. An item that is asked for: its name by 6 and 4, then "13 not held"
+unfoldable pub askedRefusal : State → Bytes → ℕ
+askedRefusal S name =
+    first
+    (askedField name
+    ∷ when (not (held (itemAt name (S .items)))) 13
+    ∷ [])
+
+abbrev pub bytesOf : Option Item → Bytes
+bytesOf none = []
+bytesOf (some i) = i .bytes
+
+unfoldable pub look : State → Look → Answer
+-- "find item: its length"
+look S (Find name) = choose (eqb (askedRefusal S name) 0) (answer 0 (length (bytesOf (itemAt name (S .items))) ∷ []) []) (refused (askedRefusal S name))
+-- "view item: its bytes .., empty on refusal, and that part's bytes .. are its only answer": no number and no value
+look S (View name) = choose (eqb (askedRefusal S name) 0) (answer 0 [] (bytesOf (itemAt name (S .items)))) (answer 0 [] [])
+-- "totals: how many items are held, how many groups are a part, the charge"
+look S Totals = answer 0 (length (S .items) ∷ length (parts (S .items)) ∷ charge S ∷ []) []
+
+-- PRINTS. What a call writes, and its values besides the length; or the number of its refusal
+pub data Printed : Type 0 where
+  Text : (text : Bytes) (values : List ℕ) → Printed
+  Refused : ℕ → Printed
+
+abbrev pub unless : ℕ → Printed → Printed
+unless n w = cond (eqb n 0) w (Refused n)
+
+-- "13 not held, no part yet"
+abbrev pub noPart : State → Bytes → ℕ
+noPart S name = when (not (isPart (group name (S .items)))) 13
+
+abbrev pub textOf : Option Bytes → Bytes
+textOf none = []
+textOf (some t) = t
+
+abbrev pub flag : Bool → ℕ
+flag b = cond b 1 0
+
+-- "internal, the pack IRI of the path resolved from the source as held; external, the target resolved against the package IRI without
+-- fragment; besides the length it answers the mode, and 1 if that part is held, else 0 (external: 0)"; "13 not held"
+unfoldable pub resolved : State → Bytes → Option Relationship → Printed
+resolved S base none = Refused 13
+resolved S base (some r) =
+    cond (eqb (r .mode) 1)
+    (Text (resolve (unfragmented base) (r .target)) (1 ∷ 0 ∷ []))
+    (Text (packIri base (resolvePath (r .source) (r .target))) (0 ∷ flag (isPart (group (resolvePath (r .source) (r .target)) (S .items))) ∷ []))
+
+-- for an output of so many bytes
+unfoldable pub printed : State → ℕ → Print → Printed
+-- "read part(name, offset): the content from there, as much as the output takes; none past its end"
+printed S size (ReadPart name offset) =
+    unless (first (partField name ∷ noPart S name ∷ [])) (Text (take size (drop offset (content (group name (S .items))))) [])
+-- "media type of a part: its Override, else the Default of its extension, copied out"; "14 no media type"
+printed S size (MediaType name) =
+    unless (first (partField name ∷ noPart S name ∷ when (not (held (mediaTypeOf name S))) 14 ∷ [])) (Text (textOf (mediaTypeOf name S)) [])
+-- "part at position i, from 0, in folded order: its spelling"; "13 .. no such position"
+printed S size (PartAt position) =
+    unless (when (leb (length (parts (S .items))) position) 13) (Text (spelling (getD (parts (S .items)) position [])) [])
+-- "resolve relationship(source, id, package IRI)"
+printed S size (ResolveRelationship source id base) =
+    unless (first (sourceField source ∷ idField id ∷ packageField base ∷ []))
+    (resolved S base (lookup keyOfRelationship (relationshipKey source id) (S .relationships)))
+printed S size WriteTypes = Text (typesText S) []
+-- "A source without relationships, held or not, gets no entry lines."
+printed S size (WriteRelationships source) = unless (sourceField source) (Text (relationshipsText source S) [])
+
+-- how many values a call answers: the length; the mode and the flag besides
+abbrev pub valueCount : Print → ℕ
+valueCount (ReadPart name offset) = 1
+valueCount (MediaType name) = 1
+valueCount (PartAt position) = 1
+valueCount (ResolveRelationship source id base) = 3
+valueCount WriteTypes = 1
+valueCount (WriteRelationships source) = 1
+
+-- "where it writes bytes, their number is the value"; "Output past the written bytes is kept"; "3 output too short (carries the length
+-- needed)"; "A refusal answers its number and 0 for every value (3: the length as the first)"
+unfoldable pub filled : ℕ → Bytes → Printed → Answer
+filled count output (Refused k) = answer k (replicate count 0) output
+filled count output (Text t values) =
+    choose (leb (length t) (length output)) (answer 0 (length t ∷ values) (t ++ drop (length t) output))
+    (answer 3 (length t ∷ replicate (count - 1) 0) output)
+
+-- A STEP: the answer, and the package after the call. room is the length of the lent package
+abbrev pub step : ℕ → State → Call → Answer × State
+step room S (Start C) = changed (startRefusal room C) S (empty C)
+step room S (Looks q) = (look S q, S)
+step room S (Changes c) = change S c
+step room S (Prints p output) = (filled (valueCount p) output (printed S (length output) p), S)
+
+-- A LIST OF CALLS: every answer, and the package after the last. "Each call of a list is lent the package as the call before left it, in
+-- full length", so room stays
+unfoldable pub answers : ℕ → State → List Call → List Answer
+answers room S [] = []
+answers room S (c ∷ cs) = step room S c .0 ∷ answers room (step room S c .1) cs
+
+unfoldable pub after : ℕ → State → List Call → State
+after room S [] = S
+after room S (c ∷ cs) = after room (step room S c .1) cs
+
+-- the bytes that the call's output holds before it
+abbrev pub lent : Call → Bytes
+lent (Start C) = []
+lent (Looks q) = []
+lent (Changes c) = []
+lent (Prints p output) = output
