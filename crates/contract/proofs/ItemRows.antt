@@ -1,0 +1,118 @@
+-- The rows of the items: which item a row is, where a key stands among them, how many there are.
+-- Assumes nothing.
+use Prim.Native.Nat.{ℕ, zero, suc, _+_, _-_, _/_, _≤_, _<_}
+use mathlib.Core.Path.{_≡_, refl, ap, ap₂, sym, _∙_, subst}
+use mathlib.Core.Bool.{Bool, true, false, not}
+use mathlib.Core.List.{List, [], _∷_, _++_, map}
+use native.Mathlib.Nat.{zero-add, add-zero}
+use native.Mathlib.Omega.{arith}
+use lib.Dec.{ltb}
+use lib.ListN.{length, getD, length-map}
+use lib.Seq.{getD-append-add}
+use borrow.Author.Tests.{ltb-true, ltb-false}
+use Rattle.chars.specs.Folding.{fold, order}
+use Rattle.chars.specs.declared.folding.Order.{Order}
+use Rattle.model.specs.Sets.{Bytes, Key, keyOrder, thenBy, isLess, isEqual, before, sameKey, Each}
+use Rattle.model.specs.Places.{firstWhere, bound}
+use Rattle.model.specs.Fields.{prefixOf, suffixOf}
+use Rattle.model.specs.Package.{Item, Default, State, keyOfItem, keyOfDefault}
+use Rattle.model.proofs.Lists.{each-map, each-at}
+use Rattle.store.specs.Layout.{countOf}
+use Rattle.store.specs.Rows.{Row, noRow, rowAt, tagAt, rowsOf, fieldOf}
+use Rattle.store.proofs.Headers.{row-getD}
+use Rattle.contract.specs.Rows.{tagOf, defaultTag, itemRow, defaultRow, overrideRow, relationshipRow, otherRows, rowsFor, setOf, second, keyIn, rowKey}
+use Rattle.contract.specs.Holds.{Holds}
+use Rattle.contract.specs.Searches.{Stands, Bounded}
+use Rattle.contract.proofs.RowSearch.{set-same}
+use Rattle.contract.proofs.RowKeys.{tag-set, item-row-key, item-row-set, default-row-key}
+use Rattle.contract.proofs.RowOrders.{set-bound, others-above, defaults-above, items-below, holds-ordered}
+use Rattle.contract.proofs.RowCharges.{count-rows}
+
+pub noItem : Item
+noItem = record { name = []; bytes = [] }
+
+getD-front : {E F : Type 0} (f : E → F) (l : List E) (m : List F) (i : ℕ) (d : E) (e : F) → i < length l → getD (map f l ++ m) i e ≡ f (getD l i d)
+getD-front f [] m i d e h = absurd (omega arith)
+getD-front f (x ∷ l) m zero d e h = refl
+getD-front f (x ∷ l) m (suc i) d e h = getD-front f l m i d e (omega arith)
+
+-- no key is before the empty one
+no-less : (s : Bytes) → before (s, []) ([], []) ≡ false
+unfolding keyOrder thenBy order
+no-less [] = refl
+no-less (x ∷ s) = refl
+
+module _ (b : List ℕ) (S : State) (h : Holds b S) where
+  pub items-le : length (S .items) ≤ countOf b
+  items-le = omega (arith, count-rows b S h)
+
+  -- row i is item i
+  pub item-row : (i : ℕ) → i < length (S .items) → rowAt b i ≡ itemRow (getD (S .items) i noItem)
+  unfolding rowsFor
+  item-row i l =
+      sym (row-getD b i (omega (arith, items-le))) ∙ ap (λ (rs : List Row). getD rs i noRow) (h .lies .rows) ∙ getD-front itemRow (S .items) (otherRows S) i noItem noRow l
+
+  pub item-tag : (i : ℕ) → i < length (S .items) → tagAt b i ≡ tagOf (suffixOf (getD (S .items) i noItem .name))
+  unfolding itemRow
+  item-tag i l = ap (λ (r : Row). r .tag) (item-row i l)
+
+  pub item-prefix : (i : ℕ) → i < length (S .items) → fieldOf (rowAt b i) 0 ≡ prefixOf (getD (S .items) i noItem .name)
+  unfolding itemRow fieldOf
+  item-prefix i l = ap (λ (r : Row). fieldOf r 0) (item-row i l)
+
+  pub item-bytes : (i : ℕ) → i < length (S .items) → fieldOf (rowAt b i) 2 ≡ getD (S .items) i noItem .bytes
+  unfolding itemRow fieldOf
+  item-bytes i l = ap (λ (r : Row). fieldOf r 2) (item-row i l)
+
+  -- where a key stands among the items
+  pub item-bound : (p : Bytes) (t : ℕ) (id : Bytes) (r : ℕ) → Bounded b (keyIn 0 p t id) r → r ≡ bound keyOfItem (fold p, t / 2 ∷ []) (S .items)
+  unfolding rowsFor second
+  item-bound p t id r e =
+      e .is (holds-ordered b S h) ∙ ap (λ (rs : List Row). bound rowKey (0 ∷ fold p, t / 2 ∷ []) rs) (h .lies .rows)
+      ∙ set-bound keyOfItem itemRow 0 item-row-key (fold p, t / 2 ∷ []) [] (otherRows S) (S .items) tt (others-above S) ∙ zero-add _
+
+  -- how item i stands to a key
+  pub item-stands : (i : ℕ) (p : Bytes) (t : ℕ) (id : Bytes) (o : Order) → i < length (S .items) → Stands b i (keyIn 0 p t id) o
+      → o ≡ keyOrder (keyOfItem (getD (S .items) i noItem)) (fold p, t / 2 ∷ [])
+  unfolding second
+  item-stands i p t id o l e =
+      let x = getD (S .items) i noItem in
+      e .is (h .lies .sound) (omega (arith, items-le))
+      ∙ ap (λ (r : Row). keyOrder (rowKey r) (0 ∷ fold p, t / 2 ∷ [])) (item-row i l)
+      ∙ ap (λ (k : Key). keyOrder k (0 ∷ fold p, t / 2 ∷ [])) (item-row-key x)
+      ∙ set-same 0 (keyOfItem x .0) (fold p) (keyOfItem x .1) (t / 2 ∷ [])
+
+  -- how many items there are: the first row that is not before the least key of the next set
+  pub item-count : (id : Bytes) (r : ℕ) → Bounded b (keyIn 1 [] 0 id) r → r ≡ length (S .items)
+  unfolding rowsFor otherRows second firstWhere
+  item-count id r e =
+      let m = map overrideRow (S .overrides) ++ map relationshipRow (S .relationships) in
+      e .is (holds-ordered b S h) ∙ ap (λ (rs : List Row). bound rowKey (1 ∷ [], []) rs) (h .lies .rows)
+      ∙ set-bound keyOfDefault defaultRow 1 default-row-key ([], []) (map itemRow (S .items)) m (S .defaults) (items-below S) (defaults-above S)
+      ∙ ap₂ _+_ (length-map (S .items) itemRow) (least (S .defaults)) ∙ add-zero _
+    where
+      least : (ds : List Default) → bound keyOfDefault ([], []) ds ≡ 0
+      least [] = refl
+      least (d ∷ ds) = rw (no-less (fold (d .extension)))
+
+-- a row behind the items is of another set
+module _ (b : List ℕ) (S : State) (h : Holds b S) where
+  pub other-tag : (i : ℕ) → length (S .items) ≤ i → i < countOf b → defaultTag ≤ tagAt b i
+  unfolding rowsFor
+  other-tag i l k =
+      let n = length (map itemRow (S .items)) in
+      let e : n ≡ length (S .items) = length-map (S .items) itemRow in
+      let j = i - n in
+      let f : n + j ≡ i = omega arith in
+      let a : rowAt b i ≡ getD (otherRows S) j noRow =
+          sym (row-getD b i k) ∙ ap (λ (rs : List Row). getD rs i noRow) (h .lies .rows) ∙ ap (λ (m : ℕ). getD (map itemRow (S .items) ++ otherRows S) m noRow) (sym f)
+          ∙ getD-append-add (map itemRow (S .items)) (otherRows S) j noRow in
+      let s : 0 < setOf (getD (otherRows S) j noRow .tag) = each-at (λ (r : Row). 0 < setOf (r .tag)) (otherRows S) j noRow (omega (arith, count-rows b S h)) (others-above S) in
+      not-item (tagAt b i) (subst (λ (r : Row). 0 < setOf (r .tag)) (sym a) s)
+    where
+      not-item : (t : ℕ) → 0 < setOf t → defaultTag ≤ t
+      not-item t z = go (ltb t defaultTag) refl
+        where
+          go : (q : Bool) → ltb t defaultTag ≡ q → defaultTag ≤ t
+          go true e = absurd (omega (arith, tag-set t (ltb-true t defaultTag e)))
+          go false e = ltb-false t defaultTag e

@@ -1,0 +1,93 @@
+-- The ways in which a call's answer is right: one law for each.
+-- Assumes nothing.
+use Prim.Native.Nat.{ℕ, _+_, _≤_, _<_}
+use mathlib.Core.Path.{_≡_, refl, ap, sym, _∙_, subst}
+use mathlib.Core.Bool.{Bool, true, false, true≢false}
+use mathlib.Core.List.{List, [], _∷_, _++_}
+use native.Mathlib.Omega.{arith}
+use lib.Dec.{leb, eqb}
+use lib.ListN.{length, drop, replicate}
+use borrow.Author.Tests.{eq-eqb, ne-eqb, le-leb}
+use Rattle.iri.specs.Answers.{Answer, answer}
+use Rattle.model.specs.Package.{State, empty}
+use Rattle.model.specs.Calls.{Look, Change, Print, Call, Start, Looks, Changes, Prints, Printed, Text, Refused, done, refused, pick, changed, startRefusal, step, look, change, printed, filled, valueCount}
+use Rattle.model.proofs.Steps.{empty-good, change-good}
+use Rattle.store.specs.Packages.{isPackage}
+use Rattle.store.proofs.PackageTest.{sound-package}
+use Rattle.contract.specs.Holds.{Lies, Holds}
+use Rattle.contract.specs.Ran.{Ran, starts, noPackage, Begun}
+
+-- what holds an abstract package passes the test
+pub is-package : (b : List ℕ) (S : State) → Holds b S → isPackage b ≡ true
+is-package b S h = sound-package b (h .lies .sound)
+
+module _ (p : List ℕ) (f : isPackage p ≡ false) where
+  never : (S : State) → Holds p S → {A : Type 0} → A
+  never S h = absurd (true≢false (sym (is-package p S h) ∙ f))
+
+  -- the buffer is no package
+  pub looks-foreign : (q : Look) → noPackage (Looks q) .output ≡ [] → Ran (Looks q) p (noPackage (Looks q)) p
+  looks-foreign q o = record { ledger = λ S h. never S h; kept = λ _. (refl, o); foreign = λ _ _. refl; begun = tt; sized = refl }
+
+  pub changes-foreign : (c : Change) → Ran (Changes c) p (refused 1) p
+  changes-foreign c = record { ledger = λ S h. never S h; kept = λ _. (refl, refl); foreign = λ _ _. refl; begun = tt; sized = refl }
+
+  pub prints-foreign : (w : Print) (output : List ℕ) → Ran (Prints w output) p (noPackage (Prints w output)) p
+  prints-foreign w output = record { ledger = λ S h. never S h; kept = λ _. (refl, refl); foreign = λ _ _. refl; begun = tt; sized = refl }
+
+module _ (p : List ℕ) (t : isPackage p ≡ true) where
+  -- a call that only looks
+  pub looked : (q : Look) (a : Answer) → ((a .number ≡ 0 → ⊥) → a .output ≡ []) → ((S : State) → Holds p S → a ≡ look S q) → Ran (Looks q) p a p
+  looked q a o e = record { ledger = λ S h. (e S h, h); kept = λ r. (refl, o r); foreign = λ _ f. absurd (true≢false (sym t ∙ f)); begun = tt; sized = refl }
+
+  -- a call that writes into its output
+  pub wrote : (w : Print) (output : List ℕ) (a : Answer) → ((a .number ≡ 0 → ⊥) → a .output ≡ output) →
+      ((S : State) → Holds p S → a ≡ filled (valueCount w) output (printed S (length output) w)) → Ran (Prints w output) p a p
+  wrote w output a o e = record { ledger = λ S h. (e S h, h); kept = λ r. (refl, o r); foreign = λ _ f. absurd (true≢false (sym t ∙ f)); begun = tt; sized = refl }
+
+  -- a change that is refused
+  pub change-refused : (c : Change) (n : ℕ) → ((S : State) → Holds p S → change S c ≡ (refused n, S)) → Ran (Changes c) p (refused n) p
+  change-refused c n e = record {
+    ledger = λ S h. (ap (λ (x : Answer × State). x .0) (sym (e S h)), subst (λ (x : Answer × State). Holds p (x .1)) (sym (e S h)) h);
+    kept = λ r. (refl, refl);
+    foreign = λ _ f. absurd (true≢false (sym t ∙ f));
+    begun = tt;
+    sized = refl;
+  }
+
+  -- a change that is made
+  pub change-made : (c : Change) (q : List ℕ) → length q ≡ length p → ((S : State) → Holds p S → (change S c .0 ≡ done) × Lies q (change S c .1)) → Ran (Changes c) p done q
+  change-made c q l e = record {
+    ledger = λ S h. (sym (e S h .0), record { lies = e S h .1; good = change-good S c (h .good) });
+    kept = λ r. absurd (r refl);
+    foreign = λ _ f. absurd (true≢false (sym t ∙ f));
+    begun = tt;
+    sized = l;
+  }
+
+pub changed-refused : (n : ℕ) (S T : State) → (n ≡ 0 → ⊥) → changed n S T ≡ (refused n, S)
+changed-refused n S T h = rw (ne-eqb n 0 h)
+
+pub changed-made : (n : ℕ) (S T : State) → n ≡ 0 → changed n S T ≡ (done, T)
+changed-made n S T h = rw (eq-eqb n 0 h)
+
+-- a start
+pub started : (C : ℕ) (p q : List ℕ) → startRefusal (length p) C ≡ 0 → length q ≡ length p → Holds q (empty C) → Ran (Start C) p done q
+started C p q e l h = record {
+  ledger = λ S _. subst (λ (x : Answer × State). (done ≡ x .0) × Holds q (x .1)) (sym (changed-made (startRefusal (length p) C) S (empty C) e)) (refl, h);
+  kept = λ r. absurd (r refl);
+  foreign = λ s _. absurd (true≢false s);
+  begun = ((λ _. (refl, h)), (λ r. absurd (r e)));
+  sized = l;
+}
+
+pub start-refused : (C : ℕ) (p : List ℕ) (n : ℕ) → startRefusal (length p) C ≡ n → (n ≡ 0 → ⊥) → Ran (Start C) p (refused n) p
+start-refused C p n e z =
+    let z′ : startRefusal (length p) C ≡ 0 → ⊥ = λ y. z (sym e ∙ y) in
+    record {
+      ledger = λ S h. subst (λ (x : Answer × State). (refused n ≡ x .0) × Holds p (x .1)) (sym (changed-refused (startRefusal (length p) C) S (empty C) z′)) (ap refused (sym e), h);
+      kept = λ _. (refl, refl);
+      foreign = λ s _. absurd (true≢false s);
+      begun = ((λ y. absurd (z′ y)), (λ _. ap refused (sym e)));
+      sized = refl;
+    }

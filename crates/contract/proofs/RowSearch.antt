@@ -1,0 +1,114 @@
+-- Searching rows: how a row stands to a key, and the search by halving.
+-- Assumes nothing.
+use Prim.Native.Nat.{ℕ, zero, suc, _+_, _-_, _/_, _≤_, _<_}
+use mathlib.Core.Path.{_≡_, refl, ap, sym, _∙_}
+use mathlib.Core.Bool.{Bool, true, false, not, cond}
+use mathlib.Core.List.{List, [], _∷_}
+use native.Mathlib.Omega.{arith}
+use lib.Dec.{ltb, eqb}
+use lib.ListN.{length, getD}
+use borrow.Author.Tests.{lt-ltb, le-ltb, eq-eqb, ne-eqb}
+use Rattle.chars.specs.Folding.{fold, order, foldedOrder}
+use Rattle.chars.specs.declared.folding.Order.{Order}
+use Rattle.chars.specs.declared.folding.Order.the-variants.{Less, Equal, Greater}
+use Rattle.model.specs.Sets.{Bytes, Key, thenBy, keyOrder, isLess, before}
+use Rattle.model.specs.Places.{firstWhere, bound}
+use Rattle.model.proofs.Walks.{first-le, first-le-passing, failing-lt-first}
+use Rattle.model.proofs.Places.{not-before-monotone}
+use Rattle.store.specs.Layout.{countOf}
+use Rattle.store.specs.Rows.{Row, noRow, rowAt, tagAt, rowsOf, fieldOf}
+use Rattle.store.specs.Packages.{Shape, Sound}
+use Rattle.store.proofs.Headers.{rows-count, row-getD}
+use Rattle.contract.specs.Rows.{setOf, second, keyIn, rowKey}
+use Rattle.contract.specs.Searches.{Ordered, Stands, Bounded, Halved}
+
+-- KEYS WITH A SET IN FRONT
+pub set-less : (m n : ℕ) (a c x y : Bytes) → m < n → keyOrder (m ∷ a, x) (n ∷ c, y) ≡ Less
+unfolding keyOrder order thenBy
+set-less m n a c x y h = rw (lt-ltb m n h)
+
+pub set-greater : (m n : ℕ) (a c x y : Bytes) → n < m → keyOrder (m ∷ a, x) (n ∷ c, y) ≡ Greater
+unfolding keyOrder order thenBy
+set-greater m n a c x y h = let l : n ≤ m = omega arith in rw (le-ltb m n l, lt-ltb n m h)
+
+pub set-same : (n : ℕ) (a c x y : Bytes) → keyOrder (n ∷ a, x) (n ∷ c, y) ≡ keyOrder (a, x) (c, y)
+unfolding keyOrder order
+set-same n a c x y = rw (le-ltb n n (omega arith))
+
+-- HOW A ROW STANDS TO A KEY
+module _ (b : List ℕ) (i set : ℕ) (p : Bytes) (t : ℕ) (id : Bytes) (u own : ℕ) (eu : Shape b → i < countOf b → u ≡ tagAt b i) (eo : own ≡ setOf u) where
+  own-is : Sound b → i < countOf b → setOf (tagAt b i) ≡ own
+  own-is s l = sym (eo ∙ ap setOf (eu (s .shape) l))
+
+  pub stands-less : own < set → Stands b i (keyIn set p t id) Less
+  stands-less h = record { is = λ s l. rw (own-is s l) (sym (set-less own set (fold (rowAt b i .f0)) (fold p) (second own (tagAt b i) (rowAt b i .f1)) (second set t id) h)) }
+
+  pub stands-greater : set < own → Stands b i (keyIn set p t id) Greater
+  stands-greater h = record { is = λ s l. rw (own-is s l) (sym (set-greater own set (fold (rowAt b i .f0)) (fold p) (second own (tagAt b i) (rowAt b i .f1)) (second set t id) h)) }
+
+  -- in the same set
+  pub stands-same : set ≤ own → own ≤ set → (f : Bytes) → (Sound b → i < countOf b → f ≡ fieldOf (rowAt b i) 0) → (o : Order) → o ≡ foldedOrder f p → (g : Bytes) →
+      (Sound b → i < countOf b → g ≡ fieldOf (rowAt b i) 1) → (r : Order) → r ≡ thenBy o (order (second set u g) (second set t id)) → Stands b i (keyIn set p t id) r
+  unfolding fieldOf foldedOrder keyOrder
+  stands-same h k f ef o eo′ g eg r er = record {
+    is = λ s l.
+      let n : own ≡ set = omega arith in
+      let e : u ≡ tagAt b i = eu (s .shape) l in
+      rw (own-is s l, n, set-same set (fold (rowAt b i .f0)) (fold p) (second set (tagAt b i) (rowAt b i .f1)) (second set t id), er, eo′, ef s l, eg s l, e);
+  }
+
+  -- decided by the first text
+  pub stands-first : set ≤ own → own ≤ set → (f : Bytes) → (Sound b → i < countOf b → f ≡ fieldOf (rowAt b i) 0) → (o r : Order) → o ≡ foldedOrder f p → o ≡ r →
+      ((x : Order) → thenBy r x ≡ r) → Stands b i (keyIn set p t id) r
+  stands-first h k f ef o r eo′ e z =
+      let x = order (second set u (fieldOf (rowAt b i) 1)) (second set t id) in
+      stands-same h k f ef o eo′ (fieldOf (rowAt b i) 1) (λ s l. refl) r (sym (z x) ∙ ap (λ (y : Order). thenBy y x) (sym e))
+
+pub then-less : (x : Order) → thenBy Less x ≡ Less
+unfolding thenBy
+then-less x = refl
+
+pub then-greater : (x : Order) → thenBy Greater x ≡ Greater
+unfolding thenBy
+then-greater x = refl
+
+pub then-equal : (o : Order) (x y : Order) → o ≡ Equal → x ≡ y → x ≡ thenBy o y
+unfolding thenBy
+then-equal o x y e f = rw e f
+
+-- THE SEARCH
+module _ (b : List ℕ) (k : Key) where
+  pub halved-all : (n : ℕ) → n ≡ countOf b → Halved b k 0 n
+  halved-all n e = record {
+    low = omega arith;
+    high = omega arith;
+    is = λ o. (omega arith, let l = first-le (λ (x : Row). not (before (rowKey x) k)) (rowsOf b) in omega (arith, l, rows-count b));
+  }
+
+  module _ (lo hi m : ℕ) (h : Halved b k lo hi) (l : lo ≤ m) (r : m < hi) (o : Order) (st : Stands b m k o) (z : Bool) (ez : z ≡ isLess o) where
+    test : Sound b → not (before (rowKey (getD (rowsOf b) m noRow)) k) ≡ not z
+    test s =
+        let c : m < countOf b = omega (arith, h .high) in
+        rw (row-getD b m c) (ap not (sym (ez ∙ ap isLess (st .is s c))))
+
+    here : m < length (rowsOf b)
+    here = omega (arith, h .high, rows-count b)
+
+    pub halved-right : z ≡ true → Halved b k (m + 1) hi
+    halved-right e = record {
+      low = omega arith;
+      high = h .high;
+      is = λ q. (
+        let f = failing-lt-first (λ (x : Row). not (before (rowKey x) k)) (rowsOf b) m noRow (not-before-monotone rowKey k (rowsOf b) (q .sorted)) here (test (q .sound) ∙ ap not e) in omega (arith, f),
+        h .is q .1);
+    }
+
+    pub halved-left : z ≡ false → Halved b k lo m
+    halved-left e = record {
+      low = l;
+      high = omega (arith, h .high);
+      is = λ q. (h .is q .0, first-le-passing (λ (x : Row). not (before (rowKey x) k)) (rowsOf b) m noRow here (test (q .sound) ∙ ap not e));
+    }
+
+  pub halved-end : (lo hi : ℕ) → Halved b k lo hi → hi ≤ lo → Bounded b k lo
+  halved-end lo hi h e = record { within = omega (arith, h .low, h .high); is = λ q. omega (arith, h .is q .0, h .is q .1, h .low) }

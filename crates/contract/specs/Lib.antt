@@ -1,0 +1,5 @@
+pub mod Rows
+pub mod Holds
+pub mod Answers
+pub mod Ran
+pub mod Searches

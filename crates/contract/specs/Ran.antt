@@ -1,0 +1,51 @@
+-- What every call promises, and a run of calls.
+-- Assumes nothing.
+use Prim.Native.Nat.{ℕ}
+use mathlib.Core.Path.{_≡_}
+use mathlib.Core.Bool.{Bool, true, false}
+use mathlib.Core.List.{List, [], _∷_}
+use lib.ListN.{length, replicate}
+use Rattle.iri.specs.Answers.{Answer, answer}
+use Rattle.model.specs.Package.{State, empty}
+use Rattle.model.specs.Calls.{Look, Find, View, Totals, Call, Start, Looks, Changes, Prints, done, refused, startRefusal, step, valueCount, lent}
+use Rattle.store.specs.Packages.{isPackage}
+use Rattle.contract.specs.Holds.{Holds}
+
+-- the answer where the buffer is no package: "1 the buffer is no package", with "0 for every value"; a view has no number, and is empty
+abbrev pub noPackage : Call → Answer
+noPackage (Start C) = refused 1
+noPackage (Looks (Find name)) = refused 1
+noPackage (Looks (View name)) = answer 0 [] []
+noPackage (Looks Totals) = answer 1 (0 ∷ 0 ∷ 0 ∷ []) []
+noPackage (Changes c) = refused 1
+noPackage (Prints p output) = answer 1 (replicate (valueCount p) 0) output
+
+abbrev pub starts : Call → Bool
+starts (Start C) = true
+starts (Looks q) = false
+starts (Changes c) = false
+starts (Prints p output) = false
+
+-- a start minds no bytes: it makes an empty package of any buffer that has room for it, or refuses
+abbrev pub Begun : Call → List ℕ → Answer → List ℕ → Type 0
+Begun (Start C) p a q = (startRefusal (length p) C ≡ 0 → (a ≡ done) × Holds q (empty C)) × ((startRefusal (length p) C ≡ 0 → ⊥) → a ≡ refused (startRefusal (length p) C))
+Begun (Looks l) p a q = Unit {0}
+Begun (Changes c) p a q = Unit {0}
+Begun (Prints w output) p a q = Unit {0}
+
+-- THE PROMISE of every call. It ran on the lent bytes p, answered a, and left the bytes q
+pub record Ran (call : Call) (p : List ℕ) (a : Answer) (q : List ℕ) : Type 0 where
+  -- whatever abstract package the bytes hold, the answer is the ledger's, and the bytes then hold the ledger after the call
+  pub ledger : (S : State) → Holds p S → (a ≡ step (length p) S call .0) × Holds q (step (length p) S call .1)
+  -- "A refusal .. package and outputs stay unchanged", for all bytes, foreign ones too
+  pub kept : (a .number ≡ 0 → ⊥) → (q ≡ p) × (a .output ≡ lent call)
+  -- "Answer 1 is decided by a written test of the bytes"
+  pub foreign : starts call ≡ false → isPackage p ≡ false → a ≡ noPackage call
+  pub begun : Begun call p a q
+  -- the lent bytes keep their number
+  pub sized : length q ≡ length p
+
+-- a run of calls on one package, each with its answer: "Each call of a list is lent the package as the call before left it, in full length"
+pub data Runs : List ℕ → List (Call × Answer) → List ℕ → Type 0 where
+  none : {p : List ℕ} → Runs p [] p
+  more : {p q r : List ℕ} {c : Call} {a : Answer} {s : List (Call × Answer)} → Ran c p a q → Runs q s r → Runs p ((c, a) ∷ s) r

@@ -1,0 +1,103 @@
+// Searching the rows of a package: they stand in the order of their keys.
+use chars::folding::Order;
+use chars::folding::compare;
+use chars::folding::compare_folded;
+use store::header::count;
+use store::rows::field;
+use store::rows::tag;
+ghost use mathlib.Core.Path.{_≡_};
+ghost use Prim.Native.Nat.{_/_, _≤_};
+ghost use mathlib.Core.List.{[], _∷_};
+ghost use Rattle.chars.specs.Folding.{order};
+ghost use Rattle.model.specs.Sets.{isLess};
+ghost use Rattle.store.specs.Layout.{slotCount, countOf};
+ghost use Rattle.contract.specs.Rows.{setOf, second, keyIn};
+ghost use Rattle.contract.specs.Searches.{Stands, Bounded};
+
+// The set that a row's tag tells: 0 items, 1 Defaults, 2 Overrides, 3 relationships.
+pub fn set_of(t: usize) -> usize
+    ensures { λ r. ⌜ r ≡ setOf t ⌝ }
+{
+    if t < 32768 {
+        return 0;
+    }
+    if t == 32768 {
+        return 1;
+    }
+    if t == 32769 {
+        return 2;
+    }
+    3
+}
+
+fn compare_numbers(x: usize, y: usize) -> Order
+    ensures { λ r. ⌜ r ≡ order (x ∷ []) (y ∷ []) ⌝ }
+{
+    if x < y {
+        return Order::Less;
+    }
+    if y < x {
+        return Order::Greater;
+    }
+    Order::Equal
+}
+
+// Where the first texts of two keys of a set are equal: the numbers of items, the ids of relationships.
+fn compare_second(set: usize, u: usize, other: &[u8], t: usize, id: &[u8]) -> Order
+    ensures { λ r. ⌜ r ≡ order (second set u (now (other .entry))) (second set t (now (id .entry))) ⌝ }
+{
+    if set == 0 {
+        return compare_numbers(u / 2, t / 2);
+    }
+    if set == 3 {
+        return compare(other, id);
+    }
+    Order::Equal
+}
+
+// How the key of row i stands to the key of the set, the text p, the tag t and the id.
+pub fn stands(pkg: &[u8], i: usize, set: usize, p: &[u8], t: usize, id: &[u8]) -> Order
+    ensures { λ r. ⌜ Stands (now (pkg .entry)) i (keyIn set (now (p .entry)) t (now (id .entry))) r ⌝ }
+{
+    let u = tag(pkg, i);
+    let own = set_of(u);
+    if own < set {
+        return Order::Less;
+    }
+    if set < own {
+        return Order::Greater;
+    }
+    match compare_folded(field(pkg, i, 0), p) {
+        Order::Less => Order::Less,
+        Order::Equal => compare_second(set, u, field(pkg, i, 1), t, id),
+        Order::Greater => Order::Greater,
+    }
+}
+
+fn is_less(o: Order) -> bool
+    ensures { λ r. ⌜ r ≡ isLess o ⌝ }
+{
+    match o {
+        Order::Less => true,
+        Order::Equal => false,
+        Order::Greater => false,
+    }
+}
+
+// The first row whose key is not before the key, by halving.
+pub fn bound(pkg: &[u8], set: usize, p: &[u8], t: usize, id: &[u8]) -> usize
+    requires { ⌜ countOf (now pkg) ≤ slotCount ⌝ }
+    ensures { λ r. ⌜ Bounded (now (pkg .entry)) (keyIn set (now (p .entry)) t (now (id .entry))) r ⌝ }
+{
+    let mut lo = 0;
+    let mut hi = count(pkg);
+    while lo < hi {
+        let mid = lo + (hi - lo) / 2;
+        if is_less(stands(pkg, mid, set, p, t, id)) {
+            lo = mid + 1;
+        } else {
+            hi = mid;
+        }
+    }
+    lo
+}
