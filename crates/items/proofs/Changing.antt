@@ -1,0 +1,191 @@
+-- Put and drop of an item: each way out.
+-- Assumes nothing.
+use Prim.Native.Nat.{ℕ, suc, _+_, _-_, _^_, _≤_, _<_}
+use mathlib.Core.Path.{_≡_, refl, ap, ap₂, sym, _∙_, subst}
+use mathlib.Core.Bool.{Bool, true, false, not, _&&_, cond}
+use mathlib.Core.List.{List, [], _∷_, _++_, map}
+use mathlib.Core.Option.{Option, none, some}
+use native.Mathlib.Nat.{zero-add}
+use native.Mathlib.Omega.{arith}
+use lib.Dec.{leb, eqb}
+use lib.ListN.{length, getD, take, drop, length-take, length-drop}
+use borrow.Author.Tests.{ne-eqb, leb-true}
+use Rattle.chars.specs.Bytes.{slash, within}
+use Rattle.chars.specs.Lists.{split, all}
+use Rattle.chars.proofs.Bools.{and-left}
+use Rattle.chars.proofs.Searches.{take-rest}
+use Rattle.names.specs.Names.{segment, partName}
+use Rattle.model.specs.Sets.{Bytes, insert, remove, held, lookup}
+use Rattle.model.specs.Places.{bound, place, spot}
+use Rattle.model.specs.Fields.{when, first, prefixOf, suffixOf, itemField}
+use Rattle.model.specs.Package.{State, Item, itemKey, keyOfItem, itemAt}
+use Rattle.model.specs.Calls.{Changes, PutItem, DropItem, done, refused, changed, change, withItems, clash, putItemRefusal, dropItemRefusal}
+use Rattle.model.proofs.Rows.{rows-insert, rows-remove}
+use Rattle.model.proofs.ItemNames.{accepted-prefix}
+use Rattle.model.proofs.Refusals.{all-none, unmet}
+use Rattle.model.proofs.Sets.{absent}
+use Rattle.model.proofs.Places.{bound-place}
+use Rattle.store.specs.Layout.{countOf}
+use Rattle.store.specs.Rows.{Row, makeRow, rowsOf, insertAt, removeAt}
+use Rattle.store.specs.Packages.{isPackage, Shape, Sound, Room, Inserted, Removed}
+use Rattle.store.proofs.PackageTest.{package-shape}
+use Rattle.contract.specs.Rows.{tagOf, itemRow, otherRows, rowsFor, keyIn}
+use Rattle.contract.specs.Holds.{Lies, Holds}
+use Rattle.contract.specs.Ran.{Ran}
+use Rattle.contract.specs.Searches.{Bounded}
+use Rattle.contract.proofs.RowKeys.{tag-small}
+use Rattle.contract.proofs.Rans.{changes-foreign, change-refused, change-made, changed-refused, changed-made}
+use Rattle.items.specs.Wants.{wanted, Located}
+use Rattle.items.specs.Clashes.{Cleared}
+use Rattle.items.specs.declared.wanted.Wanted.{Wanted}
+use Rattle.items.specs.declared.wanted.Wanted.the-variants.{Named, Refused}
+use Rattle.items.proofs.Naming.{wanted-named, wanted-refused, prefix-take, prefix-in}
+use Rattle.items.proofs.Locating.{bound-of}
+use Rattle.items.proofs.Looking.{closed, opened}
+
+-- DROP
+drop-named : (S : State) (s : Bytes) (k : ℕ) → itemField s ≡ k → (k ≡ 0 → ⊥) → dropItemRefusal S s ≡ k
+unfolding dropItemRefusal first
+drop-named S s k e z = rw (e, ne-eqb k 0 z)
+
+drop-13 : (S : State) (s : Bytes) → itemField s ≡ 0 → itemAt s (S .items) ≡ none → dropItemRefusal S s ≡ 13
+unfolding dropItemRefusal first
+drop-13 S s e z = rw (e, z)
+
+drop-0 : (S : State) (s : Bytes) (i : Item) → itemField s ≡ 0 → itemAt s (S .items) ≡ some i → dropItemRefusal S s ≡ 0
+unfolding dropItemRefusal first
+drop-0 S s i e z = rw (e, z)
+
+drop-no : (S : State) (s : Bytes) (k : ℕ) → dropItemRefusal S s ≡ k → (k ≡ 0 → ⊥) → change S (DropItem s) ≡ (refused k, S)
+unfolding change
+drop-no S s k e z = ap (λ (n : ℕ). changed n S (withItems S (remove keyOfItem (itemKey s) (S .items)))) e ∙ changed-refused k S (withItems S (remove keyOfItem (itemKey s) (S .items))) z
+
+drop-yes : (S : State) (s : Bytes) → dropItemRefusal S s ≡ 0 → change S (DropItem s) ≡ (done, withItems S (remove keyOfItem (itemKey s) (S .items)))
+unfolding change
+drop-yes S s e = changed-made (dropItemRefusal S s) S (withItems S (remove keyOfItem (itemKey s) (S .items))) e
+
+-- the rows without the item's
+removed-rows : (S : State) (s : Bytes) (r : ℕ) → r ≡ spot keyOfItem (itemKey s) (S .items) → r < length (S .items) → removeAt r (rowsFor S) ≡ rowsFor (withItems S (remove keyOfItem (itemKey s) (S .items)))
+unfolding removeAt rowsFor otherRows
+removed-rows S s r e l =
+    let k = spot keyOfItem (itemKey s) (S .items) in
+    let z : 0 + k ≡ r = zero-add k ∙ sym e in
+    sym (rows-remove keyOfItem itemRow [] (otherRows S) (itemKey s) (S .items) (subst (λ (i : ℕ). i < length (S .items)) e l)
+    ∙ ap (λ (i : ℕ). take i (map itemRow (S .items) ++ otherRows S) ++ drop (i + 1) (map itemRow (S .items) ++ otherRows S)) z)
+
+-- PUT
+put-no : (S : State) (s bytes : Bytes) (k : ℕ) → putItemRefusal S s bytes ≡ k → (k ≡ 0 → ⊥) → change S (PutItem s bytes) ≡ (refused k, S)
+unfolding change
+put-no S s bytes k e z =
+    let T = withItems S (insert keyOfItem (record { name = s; bytes = bytes }) (S .items)) in
+    ap (λ (n : ℕ). changed n S T) e ∙ changed-refused k S T z
+
+put-yes : (S : State) (s bytes : Bytes) → putItemRefusal S s bytes ≡ 0 → change S (PutItem s bytes) ≡ (done, withItems S (insert keyOfItem (record { name = s; bytes = bytes }) (S .items)))
+unfolding change
+put-yes S s bytes e = changed-made (putItemRefusal S s bytes) S (withItems S (insert keyOfItem (record { name = s; bytes = bytes }) (S .items))) e
+
+put-named : (S : State) (s bytes : Bytes) (k : ℕ) → itemField s ≡ k → (k ≡ 0 → ⊥) → putItemRefusal S s bytes ≡ k
+unfolding putItemRefusal first
+put-named S s bytes k e z = rw (e, ne-eqb k 0 z)
+
+-- an accepted put finds its key free
+free-key : (S : State) (s bytes : Bytes) → putItemRefusal S s bytes ≡ 0 → held (lookup keyOfItem (itemKey s) (S .items)) ≡ false
+unfolding putItemRefusal clash
+free-key S s bytes e = unmet (held (lookup keyOfItem (itemKey s) (S .items))) 10 (omega arith) (all-none _ (all-none _ e .1 .0) .0)
+
+-- the rows with the item's
+inserted-rows : (S : State) (s bytes : Bytes) (r : ℕ) → r ≡ place keyOfItem (itemKey s) (S .items)
+    → insertAt r (itemRow (record { name = s; bytes = bytes })) (rowsFor S) ≡ rowsFor (withItems S (insert keyOfItem (record { name = s; bytes = bytes }) (S .items)))
+unfolding insertAt rowsFor otherRows
+inserted-rows S s bytes r e =
+    let i : Item = record { name = s; bytes = bytes } in
+    let k = place keyOfItem (itemKey s) (S .items) in
+    let z : 0 + k ≡ r = zero-add k ∙ sym e in
+    sym (rows-insert keyOfItem itemRow [] (otherRows S) i (S .items)
+    ∙ ap (λ (j : ℕ). take j (map itemRow (S .items) ++ otherRows S) ++ (itemRow i ∷ drop j (map itemRow (S .items) ++ otherRows S))) z)
+
+made-row : (s bytes : Bytes) (n t : ℕ) → n ≡ length (prefixOf s) → t ≡ tagOf (suffixOf s) → makeRow t (take n s) (take (length s - n) (drop n s)) bytes [] ≡ itemRow (record { name = s; bytes = bytes })
+unfolding itemRow
+made-row s bytes n t en et = rw (take-rest s n, prefix-take s n en, et, en)
+
+part-some : (s : Bytes) → partName s ≡ true → 0 < length s
+unfolding partName
+part-some s e =
+    let w = within 2 255 (length s) in
+    let f = eqb (getD s 0 0) slash in
+    omega (arith, leb-true 2 (length s) (and-left (leb 2 (length s)) (leb (length s) 255) (and-left w f (and-left (w && f) (all segment (split slash (drop 1 s))) e))))
+
+-- EACH WAY OUT; x is the test of the buffer
+module _ (p s : Bytes) (x : Bool) (ex : x ≡ isPackage p) where
+  pub drop-foreign : not x ≡ true → Ran (Changes (DropItem s)) p (refused 1) p
+  drop-foreign h = changes-foreign p (closed p s x ex h) (DropItem s)
+
+  pub put-foreign : (bytes : Bytes) → not x ≡ true → Ran (Changes (PutItem s bytes)) p (refused 1) p
+  put-foreign bytes h = changes-foreign p (closed p s x ex h) (PutItem s bytes)
+
+  pub opened-shape : not x ≡ false → Shape p
+  opened-shape h = package-shape p (opened p s x ex h)
+
+  module _ (hx : not x ≡ false) (w : Wanted) (ew : w ≡ wanted (itemField s) s) where
+    pub drop-refused : (k : ℕ) → w ≡ Refused k → Ran (Changes (DropItem s)) p (refused k) p
+    drop-refused k e =
+        let z = wanted-refused (itemField s) s w ew k e in
+        change-refused p (opened p s x ex hx) (DropItem s) k (λ S h. drop-no S s k (drop-named S s k (z .0) (z .1)) (z .1))
+
+    pub put-refused : (bytes : Bytes) (k : ℕ) → w ≡ Refused k → Ran (Changes (PutItem s bytes)) p (refused k) p
+    put-refused bytes k e =
+        let z = wanted-refused (itemField s) s w ew k e in
+        change-refused p (opened p s x ex hx) (PutItem s bytes) k (λ S h. put-no S s bytes k (put-named S s bytes k (z .0) (z .1)) (z .1))
+
+    module _ (n t : ℕ) (en : w ≡ Named n t) where
+      pub named-is : (n ≡ length (prefixOf s)) × (t ≡ tagOf (suffixOf s)) × (itemField s ≡ 0)
+      named-is = wanted-named (itemField s) s w ew n t en
+
+      pub named-some : 0 < length (take n s)
+      named-some = rw (prefix-take s n (named-is .0)) (part-some (prefixOf s) (accepted-prefix s (named-is .2) .0))
+
+      pub named-tag : t < 2 ^ 32
+      named-tag = omega (arith, named-is .1, tag-small s)
+
+      module _ (r m : ℕ) (er : Located p s r) (em : m ≡ countOf p) where
+        pub drop-missing : m ≤ r → Ran (Changes (DropItem s)) p (refused 13) p
+        drop-missing l = change-refused p (opened p s x ex hx) (DropItem s) 13 (λ S h. drop-no S s 13 (drop-13 S s (named-is .2) (er .is S h .missing (omega arith))) (λ z. omega arith))
+
+        pub drop-done : (q : Bytes) → length q ≡ length p → r < m → (Sound p → Removed p q r) → Ran (Changes (DropItem s)) p done q
+        drop-done q lq l rm = change-made p (opened p s x ex hx) (DropItem s) q lq (λ S h. out S h)
+          where
+            out : (S : State) → Holds p S → (change S (DropItem s) .0 ≡ done) × Lies q (change S (DropItem s) .1)
+            out S h =
+                let f = er .is S h in
+                let e = drop-yes S s (drop-0 S s (getD (S .items) r _) (named-is .2) (f .found (omega arith))) in
+                let o = rm (h .lies .sound) in
+                rw e
+                (refl, record { sound = o .sound; rows = o .rows ∙ ap (removeAt r) (h .lies .rows) ∙ removed-rows S s r (f .place (omega arith)) (f .within (omega arith)); capacity = o .cap ∙ h .lies .capacity })
+
+      module _ (bytes : Bytes) (r k : ℕ) (eb : Bounded p (keyIn 0 (take n s) t []) r) (ek : Cleared p s (length bytes) r k) where
+        pub put-clash : (k ≡ 0 → ⊥) → Ran (Changes (PutItem s bytes)) p (refused k) p
+        put-clash z = change-refused p (opened p s x ex hx) (PutItem s bytes) k (λ S h. put-no S s bytes k (ek .is S bytes h refl) z)
+
+        pub put-room : k ≡ 0 → Room p r (length (take n s) + (length (take (length s - n) (drop n s)) + (length bytes + 0)))
+        put-room z = subst (Room p r) sum (ek .room z)
+          where
+            sum : length s + length bytes ≡ length (take n s) + (length (take (length s - n) (drop n s)) + (length bytes + 0))
+            sum = rw (take-rest s n, length-take, length-drop) (omega (arith, prefix-in s n (named-is .0)))
+
+        pub put-done : (q : Bytes) → length q ≡ length p → k ≡ 0 → (Sound p → Inserted p q r (makeRow t (take n s) (take (length s - n) (drop n s)) bytes [])) → Ran (Changes (PutItem s bytes)) p done q
+        put-done q lq z ins = change-made p (opened p s x ex hx) (PutItem s bytes) q lq (λ S h. out S h)
+          where
+            out : (S : State) → Holds p S → (change S (PutItem s bytes) .0 ≡ done) × Lies q (change S (PutItem s bytes) .1)
+            out S h =
+                let g : putItemRefusal S s bytes ≡ 0 = ek .is S bytes h refl ∙ z in
+                let e = put-yes S s bytes g in
+                let o = ins (h .lies .sound) in
+                let pl : r ≡ place keyOfItem (itemKey s) (S .items) =
+                    bound-of p s n t (named-is .0) (named-is .1) r (countOf p) refl eb S h ∙ bound-place keyOfItem (itemKey s) (S .items) (absent keyOfItem (itemKey s) (S .items) (free-key S s bytes g)) in
+                rw e
+                (refl,
+                record {
+                  sound = o .sound;
+                  rows = o .rows ∙ ap₂ (insertAt r) (made-row s bytes n t (named-is .0) (named-is .1)) (h .lies .rows) ∙ inserted-rows S s bytes r pl;
+                  capacity = o .cap ∙ h .lies .capacity;
+                })

@@ -1,0 +1,168 @@
+-- A new item beside the held ones: 10, 12, 11.
+-- Assumes nothing.
+use Prim.Native.Nat.{ℕ, suc, _+_, _-_, _/_, _≤_, _<_}
+use mathlib.Core.Path.{_≡_, refl, ap, ap₂, sym, _∙_, subst}
+use mathlib.Core.Bool.{Bool, true, false, not, _&&_, _||_, cond, true≢false}
+use mathlib.Core.List.{List, [], _∷_, _++_, map}
+use mathlib.Core.Option.{Option, none, some}
+use native.Mathlib.Omega.{arith}
+use lib.Dec.{ltb, eqb}
+use lib.ListN.{length, getD, take, length-map}
+use lib.Seq.{take-at}
+use borrow.Author.Tests.{ltb-true, ltb-false, lt-ltb, le-ltb, ne-eqb}
+use Rattle.chars.specs.Folding.{equivalent}
+use Rattle.chars.proofs.Bools.{and-left, and-right}
+use Rattle.model.specs.Sets.{Bytes, before, sameKey, held, lookup, any}
+use Rattle.model.specs.Places.{bound, place}
+use Rattle.model.specs.Fields.{when, first, prefixOf, suffixOf}
+use Rattle.model.specs.Package.{State, Item, itemKey, keyOfItem, group, disagrees, grows}
+use Rattle.model.specs.Calls.{clash}
+use Rattle.model.proofs.Lists.{any-map, any-same}
+use Rattle.model.proofs.Walks.{first-le}
+use Rattle.model.proofs.Sets.{Absent, absent}
+use Rattle.model.proofs.Places.{bound-hit, bound-miss, bound-place, lookup-at}
+use Rattle.model.proofs.Neighbours.{clashing, disagrees-neighbours}
+use Rattle.store.specs.Layout.{countOf}
+use Rattle.store.specs.Rows.{Row, rowAt, tagAt, rowsOf, fieldOf}
+use Rattle.store.specs.Packages.{Sound}
+use Rattle.contract.specs.Rows.{tagOf, itemRow, otherRows, rowsFor, keyIn}
+use Rattle.contract.specs.Holds.{Holds}
+use Rattle.contract.specs.Searches.{Bounded}
+use Rattle.contract.proofs.ItemRows.{noItem, item-tag, item-prefix}
+use Rattle.items.specs.Clashes.{tagsDisagree, Counted, Grown, keyedAt, Keyed, opposedAt, Opposed, OpposedBefore, Clashing}
+use Rattle.items.proofs.Tags.{tags-disagree-is}
+use Rattle.items.proofs.Naming.{prefix-take}
+use Rattle.items.proofs.Locating.{bound-of, same-is}
+
+-- THE ORDER OF THE THREE
+module _ (s : Bytes) (xs : List Item) where
+  abbrev Taken : Bool
+  Taken = held (lookup keyOfItem (itemKey s) xs)
+
+  abbrev Disagreeing : Bool
+  Disagreeing = any (λ (i : Item). disagrees (suffixOf s) (suffixOf (i .name))) (group (prefixOf s) xs)
+
+  abbrev Growing : Bool
+  Growing = any (λ (i : Item). grows (prefixOf s) (prefixOf (i .name))) xs
+
+  first-10 : Taken ≡ true → 10 ≡ clash s xs
+  unfolding clash first
+  first-10 a = rw a
+
+  first-12 : Taken ≡ false → Disagreeing ≡ true → 12 ≡ clash s xs
+  unfolding clash first
+  first-12 a d = rw (a, d)
+
+  first-11 : Taken ≡ false → Disagreeing ≡ false → Growing ≡ true → 11 ≡ clash s xs
+  unfolding clash first
+  first-11 a d g = rw (a, d, g)
+
+  first-0 : Taken ≡ false → Disagreeing ≡ false → Growing ≡ false → 0 ≡ clash s xs
+  unfolding clash first
+  first-0 a d g = rw (a, d, g)
+
+module _
+    (b s : Bytes) (n t : ℕ) (en : n ≡ length (prefixOf s)) (et : t ≡ tagOf (suffixOf s)) (r m : ℕ) (eb : Bounded b (keyIn 0 (take n s) t []) r) (ec : Counted b m)
+    (z : Bool) (ez : Keyed b r m (take n s) t z)
+    where
+  module _ (S : State) (h : Holds b S) where
+    m-is : m ≡ length (S .items)
+    m-is = ec .is S h
+
+    r-is : r ≡ bound keyOfItem (itemKey s) (S .items)
+    r-is = bound-of b s n t en et r (countOf b) refl eb S h
+
+    same-at : r < length (S .items) → sameKey (itemKey s) (keyOfItem (getD (S .items) r noItem)) ≡ keyedAt b r (take n s) t
+    same-at l = same-is b s n t en et r (countOf b) refl eb S h l
+
+    z-is : z ≡ (ltb r m && keyedAt b r (take n s) t)
+    z-is = ez .is (h .lies .sound) (ec .low)
+
+    -- 10
+    taken : z ≡ true → Taken s (S .items) ≡ true
+    taken q =
+        let l : r < length (S .items) = omega (arith, ltb-true r m (and-left (ltb r m) (keyedAt b r (take n s) t) (sym z-is ∙ q)), m-is) in
+        let k : sameKey (itemKey s) (keyOfItem (getD (S .items) r noItem)) ≡ true = same-at l ∙ and-right (ltb r m) (keyedAt b r (take n s) t) (sym z-is ∙ q) in
+        let B = bound keyOfItem (itemKey s) (S .items) in
+        let p = bound-hit keyOfItem (itemKey s) (S .items) noItem (h .good .items .sorted) (subst (λ (i : ℕ). i < length (S .items)) r-is l) (subst (λ (i : ℕ). sameKey (itemKey s) (keyOfItem (getD (S .items) i noItem)) ≡ true) r-is k) in
+        ap held (lookup-at keyOfItem (itemKey s) (S .items) noItem (subst (λ (i : ℕ). i < length (S .items)) (r-is ∙ sym p) l))
+
+    untaken : z ≡ false → lookup keyOfItem (itemKey s) (S .items) ≡ none
+    untaken q = bound-miss keyOfItem (itemKey s) (S .items) noItem (h .good .items .sorted)
+        (subst (λ (i : ℕ). i < length (S .items) → sameKey (itemKey s) (keyOfItem (getD (S .items) i noItem)) ≡ false) r-is
+        (λ l. same-at l ∙ ap (λ (x : Bool). x && keyedAt b r (take n s) t) (sym (lt-ltb r m (omega (arith, m-is)))) ∙ sym z-is ∙ q))
+
+    free : z ≡ false → Absent keyOfItem (itemKey s) (S .items)
+    free q = absent keyOfItem (itemKey s) (S .items) (ap held (untaken q))
+
+    -- 12
+    opposed-is : (i : ℕ) → i < length (S .items) → opposedAt b i (take n s) t ≡ clashing s (getD (S .items) i noItem)
+    opposed-is i l =
+        let y = getD (S .items) i noItem in
+        ap₂ _&&_ (ap₂ equivalent (item-prefix b S h i l) (prefix-take s n en))
+        (ap₂ tagsDisagree et (item-tag b S h i l) ∙ tags-disagree-is (suffixOf s) (suffixOf (y .name)))
+
+    place-is : z ≡ false → place keyOfItem (itemKey s) (S .items) ≡ r
+    place-is q = sym (r-is ∙ bound-place keyOfItem (itemKey s) (S .items) (free q))
+
+    r-le : z ≡ false → r ≤ length (S .items)
+    r-le q = omega (arith, r-is, first-le (λ (x : Item). not (before (keyOfItem x) (itemKey s))) (S .items))
+
+    neighbours : z ≡ false → Disagreeing s (S .items) ≡ (ltb 0 r && (ltb (r - 1) m && opposedAt b (r - 1) (take n s) t) || ltb r m && opposedAt b r (take n s) t)
+    neighbours q =
+        subst (λ (i : ℕ). Disagreeing s (S .items) ≡ (ltb 0 i && clashing s (getD (S .items) (i - 1) noItem) || ltb i (length (S .items)) && clashing s (getD (S .items) i noItem))) (place-is q)
+        (disagrees-neighbours s (S .items) (h .good .items .sorted) (h .good .beside) (free q) noItem)
+        ∙ ap₂ _||_ (lower (ltb 0 r) refl) (upper (ltb r m) refl)
+      where
+        lower : (a : Bool) → ltb 0 r ≡ a → (a && clashing s (getD (S .items) (r - 1) noItem)) ≡ (a && (ltb (r - 1) m && opposedAt b (r - 1) (take n s) t))
+        lower false e = refl
+        lower true e =
+            let l : r - 1 < length (S .items) = omega (arith, ltb-true 0 r e, r-le q) in
+            rw (lt-ltb (r - 1) m (omega (arith, m-is))) (sym (opposed-is (r - 1) l))
+
+        upper : (a : Bool) → ltb r m ≡ a → (ltb r (length (S .items)) && clashing s (getD (S .items) r noItem)) ≡ (a && opposedAt b r (take n s) t)
+        upper false e = rw (le-ltb r (length (S .items)) (omega (arith, ltb-false r m e, m-is)))
+        upper true e =
+            let l : r < length (S .items) = omega (arith, ltb-true r m e, m-is) in
+            rw (lt-ltb r (length (S .items)) l) (sym (opposed-is r l))
+
+    -- 11
+    growing : (w : Bool) → Grown b m (take n s) w → w ≡ Growing s (S .items)
+    unfolding rowsFor itemRow
+    growing w g =
+        g .is (h .lies .sound)
+        ∙ ap (any (λ (x : Row). grows (take n s) (x .f0))) (ap (take m) (h .lies .rows) ∙ take-at (map itemRow (S .items)) (otherRows S) m (length-map (S .items) itemRow ∙ sym m-is))
+        ∙ any-map itemRow (λ (x : Row). grows (take n s) (x .f0)) (S .items)
+        ∙ any-same (λ (i : Item). grows (take n s) (itemRow i .f0)) (λ (i : Item). grows (prefixOf s) (prefixOf (i .name))) (λ i. ap (λ (p : Bytes). grows p (prefixOf (i .name))) (prefix-take s n en)) (S .items)
+
+  -- EACH WAY OUT
+  pub clash-10 : z ≡ true → Clashing b s 10
+  clash-10 q = record { is = λ S h. first-10 s (S .items) (taken S h q) }
+
+  module _ (q : z ≡ false) (x : Bool) (ex : Opposed b r m (take n s) t x) where
+    or-right-true : (a : Bool) → (a || true) ≡ true
+    or-right-true true = refl
+    or-right-true false = refl
+
+    x-is : (S : State) → Holds b S → (ltb r m && opposedAt b r (take n s) t) ≡ x
+    x-is S h = sym (ex .is (h .lies .sound) (ec .low))
+
+    pub clash-12 : x ≡ true → Clashing b s 12
+    clash-12 e = record { is = λ S h. first-12 s (S .items) (ap held (untaken S h q)) (neighbours S h q ∙ rw (x-is S h, e, or-right-true)) }
+
+    module _ (y : Bool) (ey : OpposedBefore b r m (take n s) t y) where
+      y-is : (S : State) → Holds b S → (ltb 0 r && (ltb (r - 1) m && opposedAt b (r - 1) (take n s) t)) ≡ y
+      y-is S h = sym (ey .is (h .lies .sound) (ec .low))
+
+      pub clash-12-before : y ≡ true → Clashing b s 12
+      clash-12-before e = record { is = λ S h. first-12 s (S .items) (ap held (untaken S h q)) (neighbours S h q ∙ rw (y-is S h, e)) }
+
+      module _ (e : x ≡ false) (f : y ≡ false) (w : Bool) (ew : Grown b m (take n s) w) where
+        agreeing : (S : State) → Holds b S → Disagreeing s (S .items) ≡ false
+        agreeing S h = neighbours S h q ∙ rw (y-is S h, f, x-is S h, e)
+
+        pub clash-11 : w ≡ true → Clashing b s 11
+        clash-11 g = record { is = λ S h. first-11 s (S .items) (ap held (untaken S h q)) (agreeing S h) (sym (growing S h w ew) ∙ g) }
+
+        pub clash-0 : w ≡ false → Clashing b s 0
+        clash-0 g = record { is = λ S h. first-0 s (S .items) (ap held (untaken S h q)) (agreeing S h) (sym (growing S h w ew) ∙ g) }

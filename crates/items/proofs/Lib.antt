@@ -1,0 +1,11 @@
+pub mod Tags
+pub mod Naming
+pub mod Locating
+pub mod Tests
+pub mod GrowingRows
+pub mod Clashing
+pub mod Putting
+pub mod Starting
+pub mod Looking
+pub mod Changing
+pub mod Spanning

@@ -1,0 +1,116 @@
+-- Find and view: each way out.
+-- Assumes nothing.
+use Prim.Native.Nat.{ℕ, _≤_, _<_}
+use mathlib.Core.Path.{_≡_, refl, ap, sym, _∙_}
+use mathlib.Core.Bool.{Bool, true, false, not, cond}
+use mathlib.Core.List.{List, [], _∷_}
+use mathlib.Core.Option.{Option, none, some}
+use native.Mathlib.Omega.{arith}
+use lib.ListN.{length, getD}
+use borrow.Author.Tests.{not-true, not-false, ne-eqb}
+use Rattle.iri.specs.Answers.{answer}
+use Rattle.model.specs.Sets.{Bytes}
+use Rattle.model.specs.Fields.{first, prefixOf, suffixOf, askedField}
+use Rattle.model.specs.Package.{State, Item, itemAt}
+use Rattle.model.specs.Calls.{Looks, Find, View, refused, askedRefusal, look}
+use Rattle.store.specs.Layout.{countOf}
+use Rattle.store.specs.Rows.{rowAt, fieldOf}
+use Rattle.store.specs.Packages.{isPackage, Sound}
+use Rattle.contract.specs.Rows.{tagOf}
+use Rattle.contract.specs.Answers.{ofView}
+use Rattle.contract.specs.Holds.{Holds}
+use Rattle.contract.specs.Ran.{Ran}
+use Rattle.contract.proofs.Rans.{looks-foreign, looked}
+use Rattle.contract.proofs.ItemRows.{noItem, item-bytes}
+use Rattle.items.specs.Wants.{wanted, Located}
+use Rattle.items.specs.declared.wanted.Wanted.{Wanted}
+use Rattle.items.specs.declared.wanted.Wanted.the-variants.{Named, Refused}
+use Rattle.items.proofs.Naming.{wanted-named, wanted-refused}
+
+-- THE ANSWERS
+asked-first : (S : State) (s : Bytes) (k : ℕ) → askedField s ≡ k → (k ≡ 0 → ⊥) → askedRefusal S s ≡ k
+unfolding askedRefusal first
+asked-first S s k e z = rw (e, ne-eqb k 0 z)
+
+asked-missing : (S : State) (s : Bytes) → askedField s ≡ 0 → itemAt s (S .items) ≡ none → askedRefusal S s ≡ 13
+unfolding askedRefusal first
+asked-missing S s e z = rw (e, z)
+
+asked-there : (S : State) (s : Bytes) (i : Item) → askedField s ≡ 0 → itemAt s (S .items) ≡ some i → askedRefusal S s ≡ 0
+unfolding askedRefusal first
+asked-there S s i e z = rw (e, z)
+
+find-no : (S : State) (s : Bytes) (k : ℕ) → askedRefusal S s ≡ k → (k ≡ 0 → ⊥) → refused k ≡ look S (Find s)
+unfolding look
+find-no S s k e z = rw (e, ne-eqb k 0 z)
+
+find-yes : (S : State) (s : Bytes) (i : Item) (f : Bytes) → askedRefusal S s ≡ 0 → itemAt s (S .items) ≡ some i → f ≡ i .bytes → answer 0 (length f ∷ []) [] ≡ look S (Find s)
+unfolding look
+find-yes S s i f e z g = rw (e, z, g)
+
+view-no : (S : State) (s : Bytes) (k : ℕ) → askedRefusal S s ≡ k → (k ≡ 0 → ⊥) → ofView [] ≡ look S (View s)
+unfolding look
+view-no S s k e z = rw (e, ne-eqb k 0 z)
+
+view-yes : (S : State) (s : Bytes) (i : Item) (f : Bytes) → askedRefusal S s ≡ 0 → itemAt s (S .items) ≡ some i → f ≡ i .bytes → ofView f ≡ look S (View s)
+unfolding look
+view-yes S s i f e z g = rw (e, z, g)
+
+pub asked-is : (s : Bytes) (w : Wanted) → w ≡ wanted (askedField s) s → (n t : ℕ) → w ≡ Named n t → (n ≡ length (prefixOf s)) × (t ≡ tagOf (suffixOf s))
+asked-is s w ew n t en = let z = wanted-named (askedField s) s w ew n t en in (z .0, z .1)
+
+-- EACH WAY OUT; x is the test of the buffer
+module _ (p s : Bytes) (x : Bool) (ex : x ≡ isPackage p) where
+  pub closed : not x ≡ true → isPackage p ≡ false
+  closed h = sym ex ∙ not-true x h
+
+  pub opened : not x ≡ false → isPackage p ≡ true
+  opened h = sym ex ∙ not-false x h
+
+  pub find-foreign : not x ≡ true → Ran (Looks (Find s)) p (refused 1) p
+  find-foreign h = looks-foreign p (closed h) (Find s) refl
+
+  pub view-foreign : not x ≡ true → Ran (Looks (View s)) p (ofView []) p
+  view-foreign h = looks-foreign p (closed h) (View s) refl
+
+  module _ (hx : not x ≡ false) (w : Wanted) (ew : w ≡ wanted (askedField s) s) where
+    pub find-refused : (k : ℕ) → w ≡ Refused k → Ran (Looks (Find s)) p (refused k) p
+    find-refused k e =
+        let z = wanted-refused (askedField s) s w ew k e in
+        looked p (opened hx) (Find s) (refused k) (λ _. refl) (λ S h. find-no S s k (asked-first S s k (z .0) (z .1)) (z .1))
+
+    pub view-refused : (k : ℕ) → w ≡ Refused k → Ran (Looks (View s)) p (ofView []) p
+    view-refused k e =
+        let z = wanted-refused (askedField s) s w ew k e in
+        looked p (opened hx) (View s) (ofView []) (λ _. refl) (λ S h. view-no S s k (asked-first S s k (z .0) (z .1)) (z .1))
+
+    module _ (n t : ℕ) (en : w ≡ Named n t) (r m : ℕ) (er : Located p s r) (em : m ≡ countOf p) where
+      accepted : askedField s ≡ 0
+      accepted = wanted-named (askedField s) s w ew n t en .2
+
+      missed : (S : State) → Holds p S → m ≤ r → askedRefusal S s ≡ 13
+      missed S h l = asked-missing S s accepted (er .is S h .missing (omega arith))
+
+      thirteen : _≡_ {A = ℕ} 13 0 → ⊥
+      thirteen e = omega arith
+
+      pub find-missing : m ≤ r → Ran (Looks (Find s)) p (refused 13) p
+      find-missing l = looked p (opened hx) (Find s) (refused 13) (λ _. refl) (λ S h. find-no S s 13 (missed S h l) thirteen)
+
+      pub view-missing : m ≤ r → Ran (Looks (View s)) p (ofView []) p
+      view-missing l = looked p (opened hx) (View s) (ofView []) (λ _. refl) (λ S h. view-no S s 13 (missed S h l) thirteen)
+
+      module _ (l : r < m) (f : Bytes) (ef : Sound p → r < countOf p → f ≡ fieldOf (rowAt p r) 2) where
+        there : (S : State) → Holds p S → askedRefusal S s ≡ 0
+        there S h = asked-there S s (getD (S .items) r noItem) accepted (er .is S h .found (omega arith))
+
+        bytes-are : (S : State) → Holds p S → f ≡ getD (S .items) r noItem .bytes
+        bytes-are S h = ef (h .lies .sound) (omega arith) ∙ item-bytes p S h r (er .is S h .within (omega arith))
+
+        pub find-found : Ran (Looks (Find s)) p (answer 0 (length f ∷ []) []) p
+        find-found = looked p (opened hx) (Find s) (answer 0 (length f ∷ []) []) (λ _. refl)
+            (λ S h. find-yes S s (getD (S .items) r noItem) f (there S h) (er .is S h .found (omega arith)) (bytes-are S h))
+
+        pub view-found : Ran (Looks (View s)) p (ofView f) p
+        view-found = looked p (opened hx) (View s) (ofView f) (λ z. absurd (z refl))
+            (λ S h. view-yes S s (getD (S .items) r noItem) f (there S h) (er .is S h .found (omega arith)) (bytes-are S h))

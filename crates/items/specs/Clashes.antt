@@ -1,0 +1,64 @@
+-- What the tests of a new item beside the held ones find. These are promises of inner functions.
+-- Assumes nothing.
+use Prim.Native.Nat.{ℕ, _+_, _-_, _/_, _%_, _≤_, _<_}
+use mathlib.Core.Path.{_≡_}
+use mathlib.Core.Bool.{Bool, not, _&&_, _||_}
+use mathlib.Core.List.{List}
+use lib.Dec.{ltb, eqb}
+use lib.ListN.{length, take, drop}
+use Rattle.chars.specs.Folding.{equivalent}
+use Rattle.model.specs.Sets.{Bytes, any}
+use Rattle.model.specs.Package.{State, grows}
+use Rattle.model.specs.Calls.{clash, putItemRefusal}
+use Rattle.store.specs.Layout.{countOf}
+use Rattle.store.specs.Rows.{Row, rowAt, tagAt, rowsOf, fieldOf}
+use Rattle.store.specs.Packages.{Sound, Room}
+use Rattle.contract.specs.Holds.{Holds}
+
+-- `disagrees`, read off the tags of two items
+unfoldable pub tagsDisagree : ℕ → ℕ → Bool
+tagsDisagree t u =
+    eqb t 0 && not (eqb u 0)
+    || not (eqb t 0) && eqb u 0
+    || eqb (t % 2) 1 && eqb (u % 2) 1
+    || eqb (u % 2) 1 && ltb (u / 2) (t / 2)
+    || eqb (t % 2) 1 && ltb (t / 2) (u / 2)
+
+-- r is the number of items
+pub record Counted (b : List ℕ) (r : ℕ) : Type 0 where
+  pub low : r ≤ countOf b
+  pub is : (S : State) → Holds b S → r ≡ length (S .items)
+
+-- z tells whether p grows out of the prefix of one of the first n rows, or that out of p
+pub record Grown (b : List ℕ) (n : ℕ) (p : Bytes) (z : Bool) : Type 0 where
+  pub is : Sound b → z ≡ any (λ (r : Row). grows p (r .f0)) (take n (rowsOf b))
+
+-- the walk for it has passed the first i rows
+pub record GrownFrom (b : List ℕ) (n : ℕ) (p : Bytes) (i : ℕ) : Type 0 where
+  pub is : Sound b → any (λ (r : Row). grows p (r .f0)) (take n (rowsOf b)) ≡ any (λ (r : Row). grows p (r .f0)) (drop i (take n (rowsOf b)))
+
+-- row i has the prefix p and the number of the tag t
+abbrev pub keyedAt : List ℕ → ℕ → Bytes → ℕ → Bool
+keyedAt b i p t = equivalent (fieldOf (rowAt b i) 0) p && eqb (tagAt b i / 2) (t / 2)
+
+pub record Keyed (b : List ℕ) (i m : ℕ) (p : Bytes) (t : ℕ) (z : Bool) : Type 0 where
+  pub is : Sound b → m ≤ countOf b → z ≡ (ltb i m && keyedAt b i p t)
+
+-- row i has the prefix p, and its suffix disagrees with that of the tag t
+abbrev pub opposedAt : List ℕ → ℕ → Bytes → ℕ → Bool
+opposedAt b i p t = equivalent (fieldOf (rowAt b i) 0) p && tagsDisagree t (tagAt b i)
+
+pub record Opposed (b : List ℕ) (i m : ℕ) (p : Bytes) (t : ℕ) (z : Bool) : Type 0 where
+  pub is : Sound b → m ≤ countOf b → z ≡ (ltb i m && opposedAt b i p t)
+
+pub record OpposedBefore (b : List ℕ) (r m : ℕ) (p : Bytes) (t : ℕ) (z : Bool) : Type 0 where
+  pub is : Sound b → m ≤ countOf b → z ≡ (ltb 0 r && (ltb (r - 1) m && opposedAt b (r - 1) p t))
+
+-- k is the refusal of a new item of that name by the held ones: 10, 12 or 11, 0 for none
+pub record Clashing (b : List ℕ) (name : Bytes) (k : ℕ) : Type 0 where
+  pub is : (S : State) → Holds b S → k ≡ clash name (S .items)
+
+-- k is the refusal of a put whose name is accepted; where it is 0 there is room for the row at r
+pub record Cleared (b : List ℕ) (name : Bytes) (size r k : ℕ) : Type 0 where
+  pub is : (S : State) (bytes : Bytes) → Holds b S → length bytes ≡ size → putItemRefusal S name bytes ≡ k
+  pub room : k ≡ 0 → Room b r (length name + size)

@@ -1,0 +1,3 @@
+pub mod Wants
+pub mod Clashes
+pub mod Spans

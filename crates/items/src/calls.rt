@@ -1,0 +1,110 @@
+// The calls on items.
+use crate::clashes::put_refusal;
+use crate::wanted::Wanted;
+use crate::wanted::asked;
+use crate::wanted::locate;
+use crate::wanted::strict;
+use contract::answers::Did;
+use contract::answers::Found;
+use contract::search::bound;
+use store::header::count;
+use store::header::init;
+use store::header::is_package;
+use store::rows::field;
+use store::rows::insert;
+use store::rows::remove;
+ghost use Rattle.model.specs.Calls.{Call, Look, Change};
+ghost use Rattle.contract.specs.Answers.{ofDid, ofFound, ofView};
+ghost use Rattle.contract.specs.Ran.{Ran};
+
+// Makes an empty package of the buffer.
+pub fn start(pkg: &mut [u8], capacity: u64) -> Did
+    ensures { λ r. ⌜ Ran (Call.Start capacity) (now (pkg .entry)) (ofDid r) (now (pkg .exit)) ⌝ }
+{
+    if 1000000 < capacity {
+        return Did::Refused(2);
+    }
+    let c = capacity as usize;
+    if pkg.len() < c + 32768 {
+        return Did::Refused(2);
+    }
+    init(pkg, c);
+    Did::Done
+}
+
+pub fn put_item(pkg: &mut [u8], name: &[u8], bytes: &[u8]) -> Did
+    ensures { λ r. ⌜ Ran (Call.Changes (Change.PutItem (now (name .entry)) (now (bytes .entry)))) (now (pkg .entry)) (ofDid r) (now (pkg .exit)) ⌝ }
+{
+    if !is_package(pkg) {
+        return Did::Refused(1);
+    }
+    match strict(name) {
+        Wanted::Refused(k) => Did::Refused(k),
+        Wanted::Named(n, t) => {
+            let r = bound(pkg, 0, &name[..n], t, b"");
+            let k = put_refusal(pkg, name, n, t, r, bytes.len());
+            if k != 0 {
+                return Did::Refused(k);
+            }
+            insert(pkg, r, t, &name[..n], &name[n..], bytes, b"");
+            Did::Done
+        }
+    }
+}
+
+pub fn drop_item(pkg: &mut [u8], name: &[u8]) -> Did
+    ensures { λ r. ⌜ Ran (Call.Changes (Change.DropItem (now (name .entry)))) (now (pkg .entry)) (ofDid r) (now (pkg .exit)) ⌝ }
+{
+    if !is_package(pkg) {
+        return Did::Refused(1);
+    }
+    match strict(name) {
+        Wanted::Refused(k) => Did::Refused(k),
+        Wanted::Named(n, t) => {
+            let r = locate(pkg, name, n, t);
+            if r < count(pkg) {
+                remove(pkg, r);
+                return Did::Done;
+            }
+            Did::Refused(13)
+        }
+    }
+}
+
+// The length of an item.
+pub fn find_item(pkg: &[u8], name: &[u8]) -> Found
+    ensures { λ r. ⌜ Ran (Call.Looks (Look.Find (now (name .entry)))) (now (pkg .entry)) (ofFound r) (now (pkg .entry)) ⌝ }
+{
+    if !is_package(pkg) {
+        return Found::Refused(1);
+    }
+    match asked(name) {
+        Wanted::Refused(k) => Found::Refused(k),
+        Wanted::Named(n, t) => {
+            let r = locate(pkg, name, n, t);
+            if r < count(pkg) {
+                return Found::Length(field(pkg, r, 2).len());
+            }
+            Found::Refused(13)
+        }
+    }
+}
+
+// The part of the package that holds an item's bytes; an empty part where it is refused.
+pub fn view_item<'a>(pkg: &'a [u8], name: &[u8]) -> &'a [u8]
+    ensures { λ r. ⌜ Ran (Call.Looks (Look.View (now (name .entry)))) (now (pkg .entry)) (ofView (now r)) (now (pkg .entry)) ⌝ }
+{
+    if !is_package(pkg) {
+        return &pkg[0..0];
+    }
+    match asked(name) {
+        Wanted::Refused(_) => &pkg[0..0],
+        Wanted::Named(n, t) => {
+            let r = locate(pkg, name, n, t);
+            if r < count(pkg) {
+                return field(pkg, r, 2);
+            }
+            &pkg[0..0]
+        }
+    }
+}

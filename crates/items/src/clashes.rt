@@ -1,0 +1,146 @@
+// Whether a new item may stand beside the held ones: refusals 10, 12, 11 and 15.
+use chars::folding::is_derivable;
+use chars::folding::is_equivalent;
+use contract::search::bound;
+use store::header::count;
+use store::header::free;
+use store::rows::field;
+use store::rows::tag;
+ghost use mathlib.Core.Path.{_≡_};
+ghost use mathlib.Core.Bool.{_||_};
+ghost use Prim.Native.Nat.{_≤_, _<_};
+ghost use mathlib.Core.List.{[]};
+ghost use lib.ListN.{length, take};
+ghost use Rattle.model.specs.Fields.{itemField, prefixOf, suffixOf};
+ghost use Rattle.model.specs.Package.{grows};
+ghost use Rattle.store.specs.Layout.{countOf};
+ghost use Rattle.store.specs.Packages.{Shape};
+ghost use Rattle.contract.specs.Rows.{tagOf, keyIn};
+ghost use Rattle.contract.specs.Searches.{Bounded};
+ghost use Rattle.items.specs.Clashes.{tagsDisagree, Counted, Grown, Keyed, Opposed, OpposedBefore, Clashing, Cleared};
+
+// How many items there are.
+pub fn item_count(pkg: &[u8]) -> usize
+    requires { ⌜ Shape (now pkg) ⌝ }
+    ensures { λ r. ⌜ Counted (now (pkg .entry)) r ⌝ }
+{
+    bound(pkg, 1, b"", 0, b"")
+}
+
+// The suffixes of two items of one group disagree, by their tags.
+fn tags_disagree(t: usize, u: usize) -> bool
+    ensures { λ r. ⌜ r ≡ tagsDisagree t u ⌝ }
+{
+    ((t == 0) & (u != 0))
+        | ((t != 0) & (u == 0))
+        | ((t % 2 == 1) & (u % 2 == 1))
+        | ((u % 2 == 1) & (u / 2 < t / 2))
+        | ((t % 2 == 1) & (t / 2 < u / 2))
+}
+
+fn is_grown(p: &[u8], q: &[u8]) -> bool
+    ensures { λ r. ⌜ r ≡ grows (now (p .entry)) (now (q .entry)) ⌝ }
+{
+    is_derivable(p, q) | is_derivable(q, p)
+}
+
+// Whether the prefix of one of the first n rows is derivable from p, or p from it.
+fn has_grown(pkg: &[u8], n: usize, p: &[u8]) -> bool
+    requires { ⌜ n ≤ countOf (now pkg) ⌝ }
+    ensures { λ r. ⌜ Grown (now (pkg .entry)) n (now (p .entry)) r ⌝ }
+{
+    let mut i = 0;
+    while i < n {
+        if is_grown(p, field(pkg, i, 0)) {
+            return true;
+        }
+        i += 1;
+    }
+    false
+}
+
+// Row i is one of the m items and has the key of a new one.
+fn is_keyed(pkg: &[u8], i: usize, m: usize, p: &[u8], t: usize) -> bool
+    ensures { λ r. ⌜ Keyed (now (pkg .entry)) i m (now (p .entry)) t r ⌝ }
+{
+    if m <= i {
+        return false;
+    }
+    if tag(pkg, i) / 2 != t / 2 {
+        return false;
+    }
+    is_equivalent(field(pkg, i, 0), p)
+}
+
+// Row i is one of the m items, of a new one's group, and its suffix disagrees with the new one's.
+fn is_opposed(pkg: &[u8], i: usize, m: usize, p: &[u8], t: usize) -> bool
+    ensures { λ r. ⌜ Opposed (now (pkg .entry)) i m (now (p .entry)) t r ⌝ }
+{
+    if m <= i {
+        return false;
+    }
+    if !tags_disagree(t, tag(pkg, i)) {
+        return false;
+    }
+    is_equivalent(field(pkg, i, 0), p)
+}
+
+// The same of the row before row r.
+fn is_opposed_before(pkg: &[u8], r: usize, m: usize, p: &[u8], t: usize) -> bool
+    ensures { λ z. ⌜ OpposedBefore (now (pkg .entry)) r m (now (p .entry)) t z ⌝ }
+{
+    if r == 0 {
+        return false;
+    }
+    is_opposed(pkg, r - 1, m, p, t)
+}
+
+// 10, 12, 11 or 0, for a new item that would be row r of m items: only the rows beside r can have its key or disagree with it.
+fn clash_of(pkg: &[u8], s: &[u8], n: usize, t: usize, r: usize, m: usize) -> u8
+    requires { ⌜ (n ≡ length (prefixOf (now s))) × (t ≡ tagOf (suffixOf (now s))) ⌝ }
+    requires { ⌜ Bounded (now pkg) (keyIn 0 (take n (now s)) t []) r ⌝ }
+    requires { ⌜ Counted (now pkg) m ⌝ }
+    ensures { λ k. ⌜ Clashing (now (pkg .entry)) (now (s .entry)) k ⌝ }
+{
+    if is_keyed(pkg, r, m, &s[..n], t) {
+        return 10;
+    }
+    if is_opposed(pkg, r, m, &s[..n], t) {
+        return 12;
+    }
+    if is_opposed_before(pkg, r, m, &s[..n], t) {
+        return 12;
+    }
+    if has_grown(pkg, m, &s[..n]) {
+        return 11;
+    }
+    0
+}
+
+// The refusal of a put whose name is accepted: 10, 12, 11, 15, or 0.
+pub fn put_refusal(pkg: &[u8], s: &[u8], n: usize, t: usize, r: usize, size: usize) -> u8
+    requires { ⌜ Shape (now pkg) ⌝ }
+    requires { ⌜ (n ≡ length (prefixOf (now s))) × (t ≡ tagOf (suffixOf (now s))) × (itemField (now s) ≡ 0) ⌝ }
+    requires { ⌜ Bounded (now pkg) (keyIn 0 (take n (now s)) t []) r ⌝ }
+    ensures { λ k. ⌜ Cleared (now (pkg .entry)) (now (s .entry)) size r k ⌝ }
+{
+    let m = item_count(pkg);
+    let k = clash_of(pkg, s, n, t, r, m);
+    if k != 0 {
+        return k;
+    }
+    if 256 <= m {
+        return 15;
+    }
+    if 640 <= count(pkg) {
+        return 15;
+    }
+    let room = free(pkg);
+    if room < s.len() {
+        return 15;
+    }
+    if room - s.len() < size {
+        return 15;
+    }
+    0
+}
