@@ -1,0 +1,134 @@
+-- The rows of a group: where they begin and end, and whether they are a part.
+-- Assumes nothing.
+use Prim.Native.Nat.{ℕ, _+_, _-_, _*_, _≤_, _<_}
+use mathlib.Core.Path.{_≡_, refl, ap, sym, _∙_}
+use mathlib.Core.Bool.{Bool, true, false, not, _||_}
+use mathlib.Core.List.{List, [], _∷_}
+use native.Mathlib.Omega.{arith}
+use lib.Dec.{eqb}
+use lib.ListN.{length, getD, drop, length-drop, drop-of-length-le}
+use lib.Seq.{length-take-le, getD-take, getD-drop}
+use Rattle.chars.specs.Folding.{fold, equivalent, order}
+use Rattle.chars.proofs.Equivalence.{equivalent-fold, fold-equivalent}
+use Rattle.model.specs.Sets.{Bytes, before, any, Each, Pairs, Sorted}
+use Rattle.model.specs.Places.{firstWhere, bound, lead}
+use Rattle.model.specs.Fields.{prefixOf}
+use Rattle.model.specs.Package.{Item, State, rank, keyOfItem, completeFrom, isPart, disagrees}
+use Rattle.model.specs.Good.{Beside}
+use Rattle.model.proofs.Lists.{pairs-map, pairs-drop, pairs-take, pairs-both, pairs-each}
+use Rattle.model.proofs.Walks.{first-le, walk-step, walk-stop, lead-take}
+use Rattle.model.proofs.KeyOrders.{goes-on-less}
+use Rattle.model.proofs.Keys.{number-less}
+use Rattle.model.proofs.Groups.{group-run}
+use Rattle.store.specs.Layout.{slotCount, countOf}
+use Rattle.store.specs.Rows.{rowAt, tagAt, fieldOf}
+use Rattle.store.specs.Packages.{Shape, Sound}
+use Rattle.contract.specs.Rows.{keyIn}
+use Rattle.contract.specs.Holds.{Holds}
+use Rattle.contract.specs.Searches.{Bounded}
+use Rattle.contract.proofs.ItemRows.{noItem, items-le, item-tag, item-prefix, item-bound, item-count}
+use Rattle.parts.specs.Runs.{run, inGroup, Counted, Ending, Ended, Judged, Grouped, PartOf}
+use Rattle.parts.proofs.LastItems.{mark, tagIn, Numbered, Agreeing, part-told}
+
+-- ITEMS OF ONE GROUP stand by number, and agree
+module _ (p : Bytes) (g : List Item) (a : Each (λ (i : Item). inGroup p i ≡ true) g) where
+  same-prefix : (i j : Item) → (inGroup p i ≡ true) × (inGroup p j ≡ true) → fold (prefixOf (i .name)) ≡ fold (prefixOf (j .name))
+  same-prefix i j e = equivalent-fold (prefixOf (i .name)) p (e .0) ∙ sym (equivalent-fold (prefixOf (j .name)) p (e .1))
+
+  run-numbered : Sorted keyOfItem g → Numbered g
+  unfolding order
+  run-numbered s =
+      pairs-map (λ (i j : Item). ((inGroup p i ≡ true) × (inGroup p j ≡ true)) × (before (keyOfItem i) (keyOfItem j) ≡ true)) (λ (i j : Item). rank (mark i) < rank (mark j)) g
+      (λ i j e. number-less (rank (mark i)) (rank (mark j)) (goes-on-less (keyOfItem i) (keyOfItem j) (e .1) (same-prefix i j (e .0))))
+      (pairs-both (λ (i j : Item). (inGroup p i ≡ true) × (inGroup p j ≡ true)) (λ (i j : Item). before (keyOfItem i) (keyOfItem j) ≡ true) g (pairs-each (λ (i : Item). inGroup p i ≡ true) g a) s)
+
+  run-agreeing : Pairs Beside g → Agreeing g
+  run-agreeing s =
+      pairs-map (λ (i j : Item). ((inGroup p i ≡ true) × (inGroup p j ≡ true)) × Beside i j) (λ (i j : Item). disagrees (mark i) (mark j) ≡ false) g
+      (λ i j e. e .1 .agreeing (fold-equivalent (prefixOf (i .name)) (prefixOf (j .name)) (same-prefix i j (e .0))))
+      (pairs-both (λ (i j : Item). (inGroup p i ≡ true) × (inGroup p j ≡ true)) Beside g (pairs-each (λ (i : Item). inGroup p i ≡ true) g a) s)
+
+-- HOW MANY ITEMS
+pub counted : (b : List ℕ) → Shape b → (id : Bytes) (n : ℕ) → Bounded b (keyIn 1 [] 0 id) n → Counted b n
+counted b s id n e = record { few = omega (arith, s .few, e .within); is = λ S h. item-count b S h id n e }
+
+-- WHERE A GROUP ENDS: a walk over its rows
+module _ (b : List ℕ) (i n : ℕ) (p : Bytes) where
+  pub ending-begin : Ending b i n p i
+  ending-begin = record { low = omega arith; high = λ m l k. l; is = λ S h e. refl }
+
+  pub ended-end : (e : ℕ) → Ending b i n p e → n ≤ e → Ended b i n p e
+  unfolding firstWhere
+  ended-end e w l = record {
+    low = w .low;
+    high = w .high;
+    is = λ S h k. sym (w .is S h k ∙ rw (drop-of-length-le (S .items) {i = e} (omega arith)) (omega arith));
+  }
+
+  module _ (e : ℕ) (w : Ending b i n p e) (l : e < n) (f : Bytes) (ef : Sound b → e < countOf b → f ≡ fieldOf (rowAt b e) 0) (z : Bool) (ez : z ≡ equivalent f p) where
+    here : (S : State) (h : Holds b S) → n ≡ length (S .items) → inGroup p (getD (S .items) e noItem) ≡ z
+    here S h k =
+        let m : e < length (S .items) = omega arith in
+        sym (ez ∙ ap (λ (s : Bytes). equivalent s p) (ef (h .lies .sound) (omega (arith, items-le b S h)) ∙ item-prefix b S h e m))
+
+    pub ending-more : not z ≡ false → Ending b i n p (e + 1)
+    ending-more t = record {
+      low = omega (arith, w .low);
+      high = λ m x y. omega arith;
+      is = λ S h k. w .is S h k ∙ walk-step (λ (x : Item). not (inGroup p x)) (S .items) e noItem (omega arith) (ap not (here S h k) ∙ t);
+    }
+
+    pub ended-stop : not z ≡ true → Ended b i n p e
+    ended-stop t = record {
+      low = w .low;
+      high = w .high;
+      is = λ S h k. sym (w .is S h k ∙ walk-stop (λ (x : Item). not (inGroup p x)) (S .items) e noItem (omega arith) (ap not (here S h k) ∙ t));
+    }
+
+-- WHETHER ROWS OF A GROUP ARE A PART
+module _ (b : List ℕ) (f t : ℕ) where
+  pub judged-none : t ≤ f → Judged b f t false
+  unfolding isPart completeFrom any
+  judged-none l = record { is = λ S h m p a. let z : t - f ≡ 0 = omega arith in rw z }
+
+  pub judged-last : f < t → (u : ℕ) → (Shape b → t - 1 < countOf b → u ≡ tagAt b (t - 1)) → Judged b f t (eqb u 0 || eqb u (2 * (t - f) + 1))
+  judged-last l u eu = record {
+    is = λ S h m p a.
+        let r = run f t (S .items) in
+        let z : f + (t - f - 1) ≡ t - 1 = omega arith in
+        let at : getD r (t - f - 1) noItem ≡ getD (S .items) (t - 1) noItem =
+        getD-take (t - f) (drop f (S .items)) (t - f - 1) noItem (omega arith) ∙ getD-drop f (S .items) (t - f - 1) noItem ∙ ap (λ (k : ℕ). getD (S .items) k noItem) z
+        in
+        part-told r (t - f) u (length-take-le (t - f) (drop f (S .items)) (rw length-drop (omega arith))) (omega arith)
+        (run-numbered p r a (part-of-pairs (λ (i j : Item). before (keyOfItem i) (keyOfItem j) ≡ true) (S .items) (h .good .items .sorted)))
+        (run-agreeing p r a (part-of-pairs Beside (S .items) (h .good .beside)))
+        (eu (h .lies .sound .shape) (omega (arith, items-le b S h)) ∙ item-tag b S h (t - 1) (omega arith) ∙ ap (λ (i : Item). tagIn i) (sym at));
+  }
+    where
+      part-of-pairs : (R : Item → Item → Type 0) (xs : List Item) → Pairs R xs → Pairs R (run f t xs)
+      part-of-pairs R xs h = pairs-take R (t - f) (drop f xs) (pairs-drop R f xs h)
+
+-- THE GROUP OF A PREFIX
+module _ (b : List ℕ) (p : Bytes) where
+  module _ (s : Shape b) (n : ℕ) (c : Counted b n) (id : Bytes) (f : ℕ) (e : Bounded b (keyIn 0 p 0 id) f) (t : ℕ) (x : Ended b f n p t) where
+    from-is : (S : State) → Holds b S → f ≡ bound keyOfItem (fold p, 0 ∷ []) (S .items)
+    from-is S h = item-bound b S h p 0 id f e
+
+    long : (S : State) (h : Holds b S) → t - f ≡ lead (inGroup p) (drop f (S .items))
+    long S h = omega (arith, x .is S h (c .is S h))
+
+    pub grouped : Grouped b p f t
+    grouped = record {
+      order = x .low;
+      few = x .high slotCount (omega (arith, e .within, s .few)) (c .few);
+      inside = λ S h.
+          let a = first-le (λ (i : Item). not (inGroup p i)) (drop f (S .items)) in
+          let d = length-drop f (S .items) in
+          let o = first-le (λ (i : Item). not (before (keyOfItem i) (fold p, 0 ∷ []))) (S .items) in
+          omega (arith, x .is S h (c .is S h), from-is S h);
+      is = λ S h. group-run p (S .items) (h .good .items .sorted) ∙ rw (← from-is S h, long S h);
+      alike = λ S h. rw (long S h) (lead-take (inGroup p) (drop f (S .items)));
+    }
+
+  pub part-of : (f t : ℕ) → Grouped b p f t → (z : Bool) → Judged b f t z → PartOf b p z
+  part-of f t g z j = record { is = λ S h. j .is S h (g .inside S h) p (g .alike S h) ∙ ap isPart (sym (g .is S h)) }

@@ -1,0 +1,6 @@
+pub mod LastItems
+pub mod GroupRuns
+pub mod PartWalks
+pub mod OutputCopies
+pub mod TextAnswers
+pub mod PartCalls

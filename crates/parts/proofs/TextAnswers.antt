@@ -1,0 +1,53 @@
+-- The ways out of a call that writes one text: one law for each, for every such call.
+-- Assumes nothing.
+use Prim.Native.Nat.{ℕ}
+use mathlib.Core.Path.{_≡_, refl, ap, sym, _∙_}
+use mathlib.Core.Bool.{Bool, true, false, not}
+use mathlib.Core.List.{List, [], _∷_, _++_}
+use lib.Dec.{leb}
+use lib.ListN.{length, drop}
+use borrow.Author.Tests.{not-true, not-false}
+use Rattle.iri.specs.Answers.{Answer, answer, written, writtenWhere}
+use Rattle.iri.specs.Answers as iri
+use Rattle.model.specs.Package.{State}
+use Rattle.model.specs.Calls.{Print, Prints, Text, Refused, printed, filled, choose, valueCount}
+use Rattle.store.specs.Packages.{Shape, isPackage}
+use Rattle.store.proofs.PackageTest.{package-shape}
+use Rattle.contract.specs.Holds.{Holds}
+use Rattle.contract.specs.Ran.{Ran}
+use Rattle.contract.proofs.Rans.{wrote}
+
+-- z is the answer of the test of a package
+module _ (b : List ℕ) (z : Bool) (e : z ≡ isPackage b) where
+  pub no-package : not z ≡ true → isPackage b ≡ false
+  no-package h = sym e ∙ not-true z h
+
+  pub opened : not z ≡ false → isPackage b ≡ true
+  opened h = sym e ∙ not-false z h
+
+  pub opened-shape : not z ≡ false → Shape b
+  opened-shape h = package-shape b (opened h)
+
+-- a text that is written, or too long
+text-kept : (s out : List ℕ) (a : Answer) → a ≡ written (iri.Text s) out → (a .number ≡ 0 → ⊥) → a .output ≡ out
+text-kept s out a e h = ap (λ (x : Answer). x .output) e ∙ go (leb (length s) (length out)) (λ z. h (ap (λ (x : Answer). x .number) e ∙ z))
+  where
+    go : (t : Bool) → (writtenWhere t s out .number ≡ 0 → ⊥) → writtenWhere t s out .output ≡ out
+    go true h = absurd (h refl)
+    go false h = refl
+
+pub text-filled : (s out : List ℕ) → written (iri.Text s) out ≡ filled 1 out (Text s [])
+unfolding filled
+text-filled s out = go (leb (length s) (length out))
+  where
+    go : (t : Bool) → writtenWhere t s out ≡ choose t (answer 0 (length s ∷ []) (s ++ drop (length s) out)) (answer 3 (length s ∷ []) out)
+    go true = refl
+    go false = refl
+
+module _ (b : List ℕ) (t : isPackage b ≡ true) (w : Print) (v : valueCount w ≡ 1) (out : List ℕ) where
+  pub text-refused : (n : ℕ) → ((S : State) → Holds b S → printed S (length out) w ≡ Refused n) → Ran (Prints w out) b (answer n (0 ∷ []) out) b
+  unfolding filled
+  text-refused n e = wrote b t w out (answer n (0 ∷ []) out) (λ _. refl) (λ S h. rw (e S h, v))
+
+  pub text-answered : (s : List ℕ) (a : Answer) → a ≡ written (iri.Text s) out → ((S : State) → Holds b S → printed S (length out) w ≡ Text s []) → Ran (Prints w out) b a b
+  text-answered s a ea e = wrote b t w out a (text-kept s out a ea) (λ S h. ea ∙ rw (e S h, v) (text-filled s out))

@@ -1,0 +1,64 @@
+use Prim.Native.Nat.{_-_}
+use native.Mathlib.Omega.{arith}
+use borrow.Author.Needs.{needs}
+use Rattle.parts.specs.Walks.{Walking}
+use Rattle.parts.proofs.PartWalks.{walking-begin, walking-more, walked-stop, walked-end}
+use Rattle.parts.proofs.positions.walk.Statement.{statement}
+use Rattle.parts.proofs.positions.walk.Tie as tie
+
+abbrev Inv-loop : tie.InvT-loop
+Inv-loop pkg n position row₀ passed₀ row passed = Walking pkg n position row passed
+
+abbrev μ-loop : tie.MeasureT-loop
+μ-loop pkg n position row₀ passed₀ row passed = n - row
+
+loop-holds : tie.Need-loop-holds Inv-loop μ-loop
+loop-holds c = walking-begin _ _ _
+
+add-group-end : tie.Need-add-group-end Inv-loop μ-loop
+add-group-end c = omega (arith, c .before .before .before .pre)
+
+field-requires : tie.Need-field-requires Inv-loop μ-loop
+field-requires c κs = search needs
+
+group-end-requires : tie.Need-group-end-requires Inv-loop μ-loop
+group-end-requires c κs = search needs
+
+makes-part-requires : tie.Need-makes-part-requires Inv-loop μ-loop
+makes-part-requires c κs = c .group-end .ensures .high _ (omega (arith, c .before .before .before .before .before .pre)) (c .before .before .before .before .before .pre)
+
+returns : tie.Need-returns Inv-loop μ-loop
+returns c = walked-stop _ _ _ _ _ (c .before .before .before .before .before .loop .inv) (c .before .before .before .before .loop-test .taken) _ (c .before .before .before .field .ensures .2) _ (c .before .before .group-end .ensures) _ (c .before .makes-part .ensures) (c .if1 .taken)
+
+one-if-requires : tie.Need-one-if-requires Inv-loop μ-loop
+one-if-requires c κs = search needs
+
+add-passed : tie.Need-add-passed Inv-loop μ-loop
+add-passed c = omega (arith, c .before .before .before .before .before .before .before .before .pre, c .before .before .before .before .before .before .loop .inv .few, c .one-if .ensures .1)
+
+loop-less : tie.Need-loop-less Inv-loop μ-loop
+loop-less c = omega (arith, c .before .before .before .group-end .ensures .low)
+
+loop-again : tie.Need-loop-again Inv-loop μ-loop
+loop-again c = walking-more _ _ _ _ _ (c .before .before .before .before .before .before .loop .inv) (c .before .before .before .before .before .loop-test .taken) _ (c .before .before .before .before .field .ensures .2) _ (c .before .before .before .group-end .ensures) _ (c .before .before .makes-part .ensures) (c .before .if1 .left) _ (c .one-if .ensures .0)
+
+returns-2 : tie.Need-returns-2 Inv-loop μ-loop
+returns-2 c = walked-end _ _ _ _ _ (c .before .loop .inv) (c .loop-test .left)
+
+pub walk-spec : {M : Type 1} → statement M
+walk-spec =
+    tie.close
+    (tie.spec
+    Inv-loop
+    μ-loop
+    loop-holds
+    add-group-end
+    field-requires
+    group-end-requires
+    makes-part-requires
+    returns
+    one-if-requires
+    add-passed
+    loop-less
+    loop-again
+    returns-2)

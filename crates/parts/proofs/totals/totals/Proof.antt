@@ -1,0 +1,37 @@
+use mathlib.Core.Path.{refl}
+use Rattle.model.specs.Calls.{Totals}
+use Rattle.contract.proofs.Rans.{looks-foreign}
+use Rattle.parts.proofs.TextAnswers.{no-package, opened, opened-shape}
+use Rattle.parts.proofs.PartCalls.{totals-done}
+use borrow.Author.Needs.{needs}
+use Rattle.parts.proofs.totals.totals.Statement.{statement}
+use Rattle.parts.proofs.totals.totals.Tie as tie
+
+is-package-requires : tie.Need-is-package-requires
+is-package-requires c κs = search needs
+
+returns : tie.Need-returns
+returns c = looks-foreign _ (no-package _ _ (c .before .is-package .ensures) (c .if1 .taken)) Totals refl
+
+count-items-requires : tie.Need-count-items-requires
+count-items-requires c κs = opened-shape _ _ (c .before .is-package .ensures) (c .if1 .left)
+
+walk-requires : tie.Need-walk-requires
+walk-requires c κs = search needs
+
+used-requires : tie.Need-used-requires
+used-requires c κs = search needs
+
+returns-2 : tie.Need-returns-2
+returns-2 c = totals-done _ (opened _ _ (c .before .before .before .before .is-package .ensures) (c .before .before .before .if1 .left)) _ (c .before .before .count-items .ensures) _ _ (c .before .walk .ensures) _ (c .used .ensures .0)
+
+pub totals-spec : {M : Type 1} → statement M
+totals-spec =
+    tie.close
+    (tie.spec
+    is-package-requires
+    returns
+    count-items-requires
+    walk-requires
+    used-requires
+    returns-2)

@@ -1,0 +1,66 @@
+// The parts in folded order: a walk over them, and the part at a position.
+use crate::copying::put_all;
+use crate::runs::count_items;
+use crate::runs::group_end;
+use crate::runs::makes_part;
+use iri::writing::Written;
+use store::header::is_package;
+use store::rows::field;
+ghost use mathlib.Core.Path.{_≡_};
+ghost use mathlib.Core.Bool.{cond};
+ghost use Prim.Native.Nat.{_≤_};
+ghost use Rattle.iri.specs.Answers.{ofWritten};
+ghost use Rattle.model.specs.Calls.{Call, Print};
+ghost use Rattle.store.specs.Layout.{slotCount};
+ghost use Rattle.contract.specs.Ran.{Ran};
+ghost use Rattle.parts.specs.Walks.{Walked};
+
+// Where a walk over the parts has come to, and how many it has passed.
+pub struct Stop {
+    pub row: usize,
+    pub passed: usize,
+}
+
+fn one_if(b: bool) -> usize
+    ensures { λ r. ⌜ (r ≡ cond b 1 0) × (r ≤ 1) ⌝ }
+{
+    if b {
+        return 1;
+    }
+    0
+}
+
+// Walks over n items, group by group, to the first row of the part at the position, or to the end.
+pub fn walk(pkg: &[u8], n: usize, position: u64) -> Stop
+    requires { ⌜ n ≤ slotCount ⌝ }
+    ensures { λ r. ⌜ Walked (now (pkg .entry)) n position (r .row) (r .passed) ⌝ }
+{
+    let mut row = 0;
+    let mut passed = 0;
+    while row < n {
+        let end = group_end(pkg, row + 1, n, field(pkg, row, 0));
+        let part = makes_part(pkg, row, end);
+        if part & (passed as u64 == position) {
+            return Stop { row, passed };
+        }
+        passed += one_if(part);
+        row = end;
+    }
+    Stop { row, passed }
+}
+
+// The spelling of the part at a position.
+pub fn part_at(pkg: &[u8], position: u64, out: &mut [u8]) -> Written
+    ensures { λ r. ⌜ Ran (Call.Prints (Print.PartAt position) (now (out .entry))) (now (pkg .entry)) (ofWritten r (now (out .exit))) (now (pkg .entry)) ⌝ }
+{
+    if !is_package(pkg) {
+        return Written::Refused(1);
+    }
+    let n = count_items(pkg);
+    let stop = walk(pkg, n, position);
+    let row = stop.row;
+    if n <= row {
+        return Written::Refused(13);
+    }
+    put_all(field(pkg, row, 0), out)
+}

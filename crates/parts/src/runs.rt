@@ -1,0 +1,71 @@
+// The rows of a group, and whether it is a part.
+use chars::folding::is_equivalent;
+use contract::search::bound;
+use store::rows::field;
+use store::rows::tag;
+ghost use Prim.Native.Nat.{_≤_};
+ghost use Rattle.store.specs.Layout.{slotCount};
+ghost use Rattle.store.specs.Packages.{Shape};
+ghost use Rattle.parts.specs.Runs.{Counted, Ended, Judged, Grouped, PartOf};
+
+// Rows that stand side by side: from the first up to, not including, the row `to`.
+pub struct Run {
+    pub from: usize,
+    pub to: usize,
+}
+
+// How many items there are: their rows are those before the least key of the next set.
+pub fn count_items(pkg: &[u8]) -> usize
+    requires { ⌜ Shape (now pkg) ⌝ }
+    ensures { λ r. ⌜ Counted (now (pkg .entry)) r ⌝ }
+{
+    bound(pkg, 1, b"", 0, b"")
+}
+
+// Where the items of the group p that stand side by side from row i on end, before row n.
+pub fn group_end(pkg: &[u8], i: usize, n: usize, p: &[u8]) -> usize
+    ensures { λ r. ⌜ Ended (now (pkg .entry)) i n (now (p .entry)) r ⌝ }
+{
+    let mut e = i;
+    while e < n {
+        if !is_equivalent(field(pkg, e, 0), p) {
+            return e;
+        }
+        e += 1;
+    }
+    e
+}
+
+// Whether the rows of a group are a part. They stand by number, and a last mark stands above all other numbers: the last row tells.
+pub fn makes_part(pkg: &[u8], from: usize, to: usize) -> bool
+    requires { ⌜ to ≤ slotCount ⌝ }
+    ensures { λ r. ⌜ Judged (now (pkg .entry)) from to r ⌝ }
+{
+    if to <= from {
+        return false;
+    }
+    let t = tag(pkg, to - 1);
+    (t == 0) | (t == 2 * (to - from) + 1)
+}
+
+// The rows of the group p.
+pub fn find_group(pkg: &[u8], p: &[u8]) -> Run
+    requires { ⌜ Shape (now pkg) ⌝ }
+    ensures { λ r. ⌜ Grouped (now (pkg .entry)) (now (p .entry)) (r .from) (r .to) ⌝ }
+{
+    let n = count_items(pkg);
+    let from = bound(pkg, 0, p, 0, b"");
+    let to = group_end(pkg, from, n, p);
+    Run { from, to }
+}
+
+// Whether the items with the prefix p are a part.
+pub fn is_part(pkg: &[u8], p: &[u8]) -> bool
+    requires { ⌜ Shape (now pkg) ⌝ }
+    ensures { λ r. ⌜ PartOf (now (pkg .entry)) (now (p .entry)) r ⌝ }
+{
+    let group = find_group(pkg, p);
+    let from = group.from;
+    let to = group.to;
+    makes_part(pkg, from, to)
+}

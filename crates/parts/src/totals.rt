@@ -1,0 +1,25 @@
+// The totals.
+use crate::positions::walk;
+use crate::runs::count_items;
+use contract::answers::Totalled;
+use store::header::is_package;
+use store::header::used;
+ghost use Rattle.model.specs.Calls.{Call, Look};
+ghost use Rattle.contract.specs.Answers.{ofTotalled};
+ghost use Rattle.contract.specs.Ran.{Ran};
+
+// How many items are held, how many groups are a part, the charge. There are no more parts than items, so the walk goes to the end.
+pub fn totals(pkg: &[u8]) -> Totalled
+    ensures { λ r. ⌜ Ran (Call.Looks Look.Totals) (now (pkg .entry)) (ofTotalled r) (now (pkg .entry)) ⌝ }
+{
+    if !is_package(pkg) {
+        return Totalled::Refused(1);
+    }
+    let n = count_items(pkg);
+    let all = walk(pkg, n, n as u64);
+    Totalled::Of {
+        items: n,
+        parts: all.passed,
+        charge: used(pkg),
+    }
+}
