@@ -1,0 +1,43 @@
+-- Demand 3.
+-- Assumes nothing.
+use Prim.Native.Nat.{ℕ}
+use mathlib.Core.Path.{_≡_, refl, ap, ap₂, sym, _∙_, subst}
+use mathlib.Core.Bool.{Bool, true, false}
+use mathlib.Core.List.{List, [], _∷_, map}
+use lib.Dec.{eqb}
+use lib.ListN.{length}
+use borrow.Author.Tests.{eqb-true, eqb-false}
+use Rattle.chars.specs.Folding.{equivalent, derivable}
+use Rattle.iri.specs.Answers.{Answer}
+use Rattle.model.specs.Sets.{sumOf, Pairs}
+use Rattle.model.specs.Package.{Item, State, empty, charge}
+use Rattle.model.specs.Calls.{Call, Start, startRefusal, step, answers, after, look}
+use Rattle.model.specs.Good.{Good, Beside}
+use Rattle.model.proofs.Lists.{pairs-map}
+use Rattle.contract.specs.Holds.{Holds}
+use Rattle.contract.specs.Ran.{Ran, Runs, none, more}
+use Rattle.package.specs.Demand.{Demanded, callsOf, answersOf, AsLedger, EveryRun}
+
+good-demanded : (S : State) → Good S → Demanded S
+unfolding look charge
+good-demanded S g = record {
+  alone = pairs-map Beside _ (S .items) (λ i j b. b .alone) (g .beside);
+  numbered = pairs-map Beside _ (S .items) (λ i j b. b .numbered) (g .beside);
+  underived = pairs-map Beside _ (S .items) (λ i j b. b .underived) (g .beside);
+  totals = λ room. refl;
+}
+
+every-from : (room : ℕ) {p q : List ℕ} {s : List (Call × Answer)} → Runs p s q → (S : State) → room ≡ length p → Holds p S → AsLedger room S s q
+unfolding answers after
+every-from room none S e h = record { answered = refl; holds = h; demanded = good-demanded S (h .good) }
+every-from room (more {p} {q} {r} {c} {a} {s} ran rs) S e h =
+    let g : (a ≡ step room S c .0) × Holds q (step room S c .1) = subst (λ (n : ℕ). (a ≡ step n S c .0) × Holds q (step n S c .1)) (sym e) (ran .ledger S h) in
+    let k = every-from room rs (step room S c .1) (e ∙ sym (ran .sized)) (g .1) in
+    record { answered = ap₂ _∷_ (g .0) (k .answered); holds = k .holds; demanded = k .demanded }
+
+pub every-run : EveryRun
+every-run C o p q a s r z rs = go (eqb (startRefusal (length o) C) 0) refl
+  where
+    go : (x : Bool) → eqb (startRefusal (length o) C) 0 ≡ x → AsLedger (length o) (empty C) s q
+    go true e = every-from (length o) rs (empty C) (sym (r .sized)) (r .begun .0 (eqb-true (startRefusal (length o) C) 0 e) .1)
+    go false e = absurd (eqb-false (startRefusal (length o) C) 0 e (ap (λ (y : Answer). y .number) (sym (r .begun .1 (eqb-false (startRefusal (length o) C) 0 e))) ∙ z))

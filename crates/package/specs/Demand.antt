@@ -1,0 +1,50 @@
+-- Demand 3: what holds of every list of calls on one package just started. `proofs/EveryRun.antt` proves it.
+-- Assumes nothing.
+use Prim.Native.Nat.{ℕ, _+_}
+use mathlib.Core.Path.{_≡_}
+use mathlib.Core.Bool.{Bool, true, false, _||_}
+use mathlib.Core.List.{List, [], _∷_, map}
+use lib.ListN.{length}
+use Rattle.chars.specs.Folding.{equivalent, derivable}
+use Rattle.iri.specs.Answers.{Answer, answer}
+use Rattle.model.specs.Sets.{sumOf, Pairs}
+use Rattle.model.specs.Fields.{prefixOf, suffixOf, whole}
+use Rattle.model.specs.Package.{Item, State, empty, rank, itemCharge, defaultCharge, overrideCharge, relationshipCharge, parts}
+use Rattle.model.specs.Calls.{Call, Start, Looks, Totals, step, answers, after}
+use Rattle.contract.specs.Holds.{Holds}
+use Rattle.contract.specs.Ran.{Ran, Runs}
+
+-- what demand 3 says of the abstract package after every list; the first three of every two held items
+pub record Demanded (S : State) : Type 0 where
+  -- "a held whole item's name is equivalent to no other held item's prefix"
+  pub alone : Pairs (λ (i j : Item). (whole (suffixOf (i .name)) || whole (suffixOf (j .name))) ≡ true → equivalent (prefixOf (i .name)) (prefixOf (j .name)) ≡ false) (S .items)
+  -- "No piece number stands twice in a group"
+  pub numbered : Pairs (λ (i j : Item). equivalent (prefixOf (i .name)) (prefixOf (j .name)) ≡ true → rank (suffixOf (i .name)) ≡ rank (suffixOf (j .name)) → ⊥) (S .items)
+  -- "no held item's prefix is derivable from another's"
+  pub underived : Pairs (λ (i j : Item). (derivable (prefixOf (i .name)) (prefixOf (j .name)) ≡ false) × (derivable (prefixOf (j .name)) (prefixOf (i .name)) ≡ false)) (S .items)
+  -- "The charge that totals then reports is the sum over the ledger's entries."
+  pub totals : (room : ℕ) → step room S (Looks Totals) .0
+      ≡ answer 0
+      (length (S .items)
+      ∷ length (parts (S .items))
+      ∷ (sumOf itemCharge (S .items) + sumOf defaultCharge (S .defaults) + sumOf overrideCharge (S .overrides) + sumOf relationshipCharge (S .relationships))
+      ∷ [])
+      []
+
+abbrev pub callsOf : List (Call × Answer) → List Call
+callsOf = map (λ (t : Call × Answer). t .0)
+
+abbrev pub answersOf : List (Call × Answer) → List Answer
+answersOf = map (λ (t : Call × Answer). t .1)
+
+-- a run from a package that holds S, to the bytes q: "every answer and every output byte equals the ledger's"
+pub record AsLedger (room : ℕ) (S : State) (s : List (Call × Answer)) (q : List ℕ) : Type 0 where
+  pub answered : answersOf s ≡ answers room S (callsOf s)
+  pub holds : Holds q (after room S (callsOf s))
+  pub demanded : Demanded (after room S (callsOf s))
+
+-- THE STATEMENT. "For every list of these calls on one package just started, refused ones included": a start of the bytes o with the capacity C
+-- was accepted and left p; s is any list of calls with their answers that ran from p to q, starts among them. Then the answers are those of
+-- the ledger that begins with C and empty sets
+abbrev pub EveryRun : Type 0
+EveryRun = (C : ℕ) (o p q : List ℕ) (a : Answer) (s : List (Call × Answer)) → Ran (Start C) o a p → a .number ≡ 0 → Runs p s q → AsLedger (length o) (empty C) s q
