@@ -31,6 +31,10 @@ equivalent a b = same (fold a) (fold b)
 unfoldable pub derivable : List ℕ → List ℕ → Bool
 derivable a b = begins (fold b ++ slash ∷ []) (fold a) && ltb (length b + 1) (length a)
 
+-- how two bytes stand to each other: 0 less, 1 equal, 2 greater
+unfoldable pub byteOrder : ℕ → ℕ → ℕ
+byteOrder x y = cond (ltb x y) 0 (cond (ltb y x) 2 1)
+
 -- "byte by byte; a proper prefix comes first"
 unfoldable pub order : List ℕ → List ℕ → Order
 order [] [] = Equal

@@ -3,7 +3,7 @@ use crate::search::byte_at;
 ghost use mathlib.Core.Path.{_≡_};
 ghost use mathlib.Core.List.{map};
 ghost use lib.Dec.{eqb};
-ghost use Rattle.chars.specs.Folding.{lower, inCase, equivalent, derivable, order, foldedOrder, endsIn};
+ghost use Rattle.chars.specs.Folding.{lower, inCase, byteOrder, equivalent, derivable, order, foldedOrder, endsIn};
 
 pub enum Order {
     Less,
@@ -67,6 +67,24 @@ fn to_case(folded: bool, b: u8) -> u8
     if folded { to_lower(b) } else { b }
 }
 
+// 0 less, 1 equal, 2 greater: two bytes, folded or as they stand. Most that are compared are the same.
+fn byte_order(folded: bool, p: u8, q: u8) -> u8
+    ensures { λ r. ⌜ r ≡ byteOrder (inCase folded p) (inCase folded q) ⌝ }
+{
+    if p == q {
+        return 1;
+    }
+    let x = to_case(folded, p);
+    let y = to_case(folded, q);
+    if x < y {
+        return 0;
+    }
+    if y < x {
+        return 2;
+    }
+    1
+}
+
 // Byte by byte, folded or as they stand; a proper prefix comes first.
 fn compare_by(folded: bool, a: &[u8], b: &[u8]) -> Order
     ensures { λ r. ⌜ r ≡ order (map (inCase folded) (now (a .entry))) (map (inCase folded) (now (b .entry))) ⌝ }
@@ -76,12 +94,11 @@ fn compare_by(folded: bool, a: &[u8], b: &[u8]) -> Order
         if b.len() <= i {
             return Order::Greater;
         }
-        let x = to_case(folded, a[i]);
-        let y = to_case(folded, b[i]);
-        if x < y {
+        let o = byte_order(folded, a[i], b[i]);
+        if o == 0 {
             return Order::Less;
         }
-        if y < x {
+        if o == 2 {
             return Order::Greater;
         }
         i += 1;
