@@ -1,11 +1,9 @@
 //! Judging and comparing typical names: the archive beside the reference.
 
-use std::hint::black_box;
-use std::time::Instant;
+mod support;
 
-/// How often a round goes through all names, and how many rounds there are.
+/// How often a round goes through all names.
 const PASSES: usize = 500;
-const ROUNDS: usize = 15;
 
 /// 200 names as a slide has them: tiles, pieces, some UTF-8 and triplets.
 fn typical_names() -> Vec<Vec<u8>> {
@@ -51,51 +49,21 @@ fn typical_iris() -> Vec<Vec<u8>> {
     (0..200).map(|i| iri(i).into_bytes()).collect()
 }
 
-/// The seconds of one round.
-fn round(texts: &[Vec<u8>], call: impl Fn(&[u8], &[u8]) -> usize) -> f64 {
-    let start = Instant::now();
-    let mut sum = 0;
-    for _ in 0..PASSES {
-        for (i, text) in texts.iter().enumerate() {
-            let neighbour = &texts[(i + 1) % texts.len()];
-            sum += call(black_box(text), black_box(neighbour));
-        }
-    }
-    black_box(sum);
-    start.elapsed().as_secs_f64()
-}
-
-fn median(mut times: Vec<f64>) -> f64 {
-    times.sort_by(f64::total_cmp);
-    times[times.len() / 2]
-}
-
-/// Runs both sides in turn and prints a line.
+/// Times a call on each text and its neighbour.
 fn compare(
     what: &str,
     texts: &[Vec<u8>],
     archive: impl Fn(&[u8], &[u8]) -> usize,
     reference: impl Fn(&[u8], &[u8]) -> usize,
 ) {
-    for (i, text) in texts.iter().enumerate() {
-        let neighbour = &texts[(i + 1) % texts.len()];
-        assert_eq!(
-            archive(text, neighbour),
-            reference(text, neighbour),
-            "{what}"
-        );
-    }
-    let (mut archive_times, mut reference_times) = (Vec::new(), Vec::new());
-    for number in 0..=ROUNDS {
-        let (a, r) = (round(texts, &archive), round(texts, &reference));
-        if number > 0 {
-            archive_times.push(a);
-            reference_times.push(r);
-        } // else it was the warm-up
-    }
-    let (a, r) = (median(archive_times), median(reference_times));
-    let rate = |seconds| (PASSES * texts.len()) as f64 / seconds / 1e6;
-    println!("{what:16} {:10.2} {:10.2} {:8.2}", rate(a), rate(r), a / r);
+    let neighbour = |i: usize| &texts[(i + 1) % texts.len()];
+    support::compare(
+        what,
+        PASSES,
+        texts.len(),
+        |i| archive(&texts[i], neighbour(i)),
+        |i| reference(&texts[i], neighbour(i)),
+    );
 }
 
 /// An item name's answer as one number, the same on both sides.
@@ -131,11 +99,7 @@ fn main() {
                 .to_vec()
         })
         .collect();
-    println!("million calls per second; ratio: archive time / reference time");
-    println!(
-        "{:16} {:>10} {:>10} {:>8}",
-        "", "archive", "reference", "ratio"
-    );
+    support::heading();
     compare(
         "is_part_name",
         &parts,

@@ -40,4 +40,90 @@ extern "C" {
     pub(crate) fn opc_is_id(text: *const u8, length: usize) -> bool;
     pub(crate) fn opc_is_iri(text: *const u8, length: usize) -> bool;
     pub(crate) fn opc_is_package_iri(text: *const u8, length: usize) -> bool;
+    pub(crate) fn opc_resolve_reference(
+        base: *const u8,
+        base_length: usize,
+        reference: *const u8,
+        reference_length: usize,
+        out: *mut u8,
+        out_length: usize,
+    ) -> Reply;
+    pub(crate) fn opc_resolve_target(
+        source: *const u8,
+        source_length: usize,
+        target: *const u8,
+        target_length: usize,
+        out: *mut u8,
+        out_length: usize,
+    ) -> Reply;
+    pub(crate) fn opc_compose_pack_iri(
+        package: *const u8,
+        package_length: usize,
+        name: *const u8,
+        name_length: usize,
+        out: *mut u8,
+        out_length: usize,
+    ) -> Reply;
+    pub(crate) fn opc_resolve_pack_iri(
+        iri: *const u8,
+        iri_length: usize,
+        out: *mut u8,
+        out_length: usize,
+    ) -> Reply;
+    pub(crate) fn opc_relationships_part(
+        source: *const u8,
+        source_length: usize,
+        out: *mut u8,
+        out_length: usize,
+    ) -> Reply;
+    pub(crate) fn opc_source_of_relationships_part(
+        name: *const u8,
+        name_length: usize,
+        out: *mut u8,
+        out_length: usize,
+    ) -> Reply;
+    pub(crate) fn opc_start(package: *mut u8, package_length: usize, capacity: u64) -> Reply;
+    pub(crate) fn opc_put_item(
+        package: *mut u8,
+        package_length: usize,
+        name: *const u8,
+        name_length: usize,
+        bytes: *const u8,
+        bytes_length: usize,
+    ) -> Reply;
+    pub(crate) fn opc_drop_item(
+        package: *mut u8,
+        package_length: usize,
+        name: *const u8,
+        name_length: usize,
+    ) -> Reply;
+    pub(crate) fn opc_find_item(
+        package: *const u8,
+        package_length: usize,
+        name: *const u8,
+        name_length: usize,
+    ) -> Reply;
+    pub(crate) fn opc_view_item(
+        package: *const u8,
+        package_length: usize,
+        name: *const u8,
+        name_length: usize,
+    ) -> Reply;
+    pub(crate) fn opc_read_part(
+        package: *const u8,
+        package_length: usize,
+        name: *const u8,
+        name_length: usize,
+        offset: u64,
+        out: *mut u8,
+        out_length: usize,
+    ) -> Reply;
+    pub(crate) fn opc_part_at(
+        package: *const u8,
+        package_length: usize,
+        position: u64,
+        out: *mut u8,
+        out_length: usize,
+    ) -> Reply;
+    pub(crate) fn opc_totals(package: *const u8, package_length: usize) -> Reply;
 }

@@ -7,7 +7,9 @@
 //!
 //! - [`names`] judges, compares and takes apart part names and item names,
 //!   and judges the other fields of a package;
-//! - [`iri`] judges IRIs.
+//! - [`iri`] judges and resolves IRIs, composes and resolves pack IRIs, and
+//!   names the Relationships part of a source;
+//! - [`package`] keeps a package in a buffer that its caller lends.
 //!
 //! ```
 //! use zombirels::names;
@@ -22,6 +24,7 @@
 mod ffi;
 pub mod iri;
 pub mod names;
+pub mod package;
 mod refusal;
 
 pub use refusal::Refusal;

@@ -1,13 +1,28 @@
 -- The numbers that answers are handed to C and Rust as.
 -- Assumes nothing.
 use Prim.Native.Nat.{ℕ}
+use mathlib.Core.Path.{_≡_}
 use mathlib.Core.Bool.{Bool, true, false}
+use mathlib.Core.List.{List, [], _∷_}
+use lib.ListN.{take}
+use Rattle.iri.specs.Answers.{Answer, answer}
+use Rattle.items.specs.Spans.{Viewed}
 use Rattle.chars.specs.declared.folding.Order.{Order}
 use Rattle.chars.specs.declared.folding.Order.the-variants.{Less, Equal, Greater}
 use Rattle.names.specs.declared.items.Suffix.the-variants.{Whole, Piece}
 use Rattle.names.specs.declared.items.ItemName.{ItemName}
 use Rattle.names.specs.declared.items.ItemName.the-variants.{Named, Refused}
-use Rattle.abi.specs.declared.judgements.Reply.{Reply}
+use Rattle.abi.specs.declared.replies.Reply.{Reply}
+
+-- document 01's answer that a reply stands for: its number, the first so many of the three values, and the output's bytes as the call left them
+abbrev pub ofReply : Reply → List ℕ → Answer
+ofReply r out = answer (r .number) (take (r .count) (r .first ∷ r .second ∷ r .third ∷ [])) out
+
+-- a view's reply: where the viewed part of the package b begins, and its length
+pub record ViewReply (name b : List ℕ) (r : Reply) : Type 0 where
+  pub accepted : r .number ≡ 0
+  pub values : r .count ≡ 2
+  pub viewed : Viewed name b (r .first) (r .second)
 
 abbrev pub orderNumber : Order → ℕ
 orderNumber Less = 0

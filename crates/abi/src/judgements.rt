@@ -1,4 +1,7 @@
 // Judgements on names, types and IRIs.
+use crate::replies::Reply;
+use crate::replies::refused;
+use crate::replies::three;
 use chars::folding::Order;
 use chars::folding::compare_folded;
 use chars::folding::is_derivable;
@@ -21,16 +24,6 @@ ghost use Rattle.names.specs.Items.{itemName};
 ghost use Rattle.names.specs.Types.{mediaType, extension, identifier};
 ghost use Rattle.names.specs.Iris.{iri, packageIri};
 ghost use Rattle.abi.specs.Replies.{orderNumber, kind, itemReply};
-
-// A call's number (0: accepted), and how many of the three values count.
-#[repr(C)]
-pub struct Reply {
-    pub number: u64,
-    pub count: u64,
-    pub first: u64,
-    pub second: u64,
-    pub third: u64,
-}
 
 #[no_mangle]
 pub extern "C" fn opc_is_part_name(s: &[u8]) -> bool
@@ -79,31 +72,7 @@ pub extern "C" fn opc_compare_folded(a: &[u8], b: &[u8]) -> u8
     }
 }
 
-fn refused(n: u8) -> Reply
-    ensures { λ r. ⌜ r ≡ record { number = n; count = 0; first = 0; second = 0; third = 0 } ⌝ }
-{
-    Reply {
-        number: n as u64,
-        count: 0,
-        first: 0,
-        second: 0,
-        third: 0,
-    }
-}
-
-fn three(first: usize, second: u64, third: usize) -> Reply
-    ensures { λ r. ⌜ r ≡ record { number = 0; count = 3; first = first; second = second; third = third } ⌝ }
-{
-    Reply {
-        number: 0,
-        count: 3,
-        first: first as u64,
-        second,
-        third: third as u64,
-    }
-}
-
-fn suffix_kind(last: bool) -> u64
+fn suffix_kind(last: bool) -> usize
     ensures { λ r. ⌜ r ≡ kind last ⌝ }
 {
     if last { 2 } else { 1 }
@@ -116,8 +85,8 @@ pub extern "C" fn opc_take_apart(s: &[u8]) -> Reply
 {
     match take_apart(s) {
         ItemName::Named(n, x) => match x {
-            Suffix::Whole => three(n, 0, 0),
-            Suffix::Piece(k, last) => three(n, suffix_kind(last), k),
+            Suffix::Whole => three(0, n, 0, 0),
+            Suffix::Piece(k, last) => three(0, n, suffix_kind(last), k),
         },
         ItemName::Refused(k) => refused(k),
     }

@@ -1,2 +1,5 @@
 // The engine for C and Rust: each judgement and each call as one exported function. A slice is passed as its pointer and its length.
+pub mod calls;
+pub mod iris;
 pub mod judgements;
+pub mod replies;

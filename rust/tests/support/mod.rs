@@ -3,6 +3,7 @@
 #![allow(dead_code)] // each test file uses its own share
 
 use std::time::{SystemTime, UNIX_EPOCH};
+use zombirels::Refusal;
 
 /// A splitmix64 generator.
 pub struct Random(u64);
@@ -41,6 +42,16 @@ impl Random {
 
     pub fn byte(&mut self) -> u8 {
         self.next() as u8
+    }
+
+    /// So many random bytes.
+    pub fn bytes(&mut self, count: usize) -> Vec<u8> {
+        let mut bytes = Vec::with_capacity(count + 8);
+        while bytes.len() < count {
+            bytes.extend_from_slice(&self.next().to_le_bytes());
+        }
+        bytes.truncate(count);
+        bytes
     }
 
     pub fn pick<T: Copy>(&mut self, from: &[T]) -> T {
@@ -111,6 +122,22 @@ impl Tally {
             "{test}: too few accepted"
         );
         assert!(refused * 20 > self.compared, "{test}: too few refused");
+    }
+}
+
+/// The number of a refusal and the length that it carries.
+pub fn numbers(refusal: Refusal) -> (u64, usize) {
+    match refusal {
+        Refusal::OutputTooShort { needed } => (3, needed),
+        _ => (u64::from(refusal.number()), 0),
+    }
+}
+
+/// The number in an environment variable, else another.
+pub fn count(variable: &str, otherwise: usize) -> usize {
+    match std::env::var(variable) {
+        Ok(text) => text.parse().expect("a number"),
+        Err(_) => otherwise,
     }
 }
 

@@ -1,0 +1,15 @@
+use borrow.Author.Needs.{needs}
+use Rattle.abi.proofs.calls.opc_totals.Statement.{statement}
+use Rattle.abi.proofs.calls.opc_totals.Tie as tie
+
+totals-requires : tie.Need-totals-requires
+totals-requires c κs = search needs
+
+of-totalled-requires : tie.Need-of-totalled-requires
+of-totalled-requires c κs = search needs
+
+returns : tie.Need-returns
+returns c = rw (c .of-totalled .ensures) (c .before .totals .ensures)
+
+pub opc-totals-spec : {M : Type 1} → statement M
+opc-totals-spec = tie.close (tie.spec totals-requires of-totalled-requires returns)

@@ -1,0 +1,19 @@
+use borrow.Author.Needs.{needs}
+use Rattle.abi.proofs.iris.opc_source_of_relationships_part.Statement.{statement}
+use Rattle.abi.proofs.iris.opc_source_of_relationships_part.Tie as tie
+
+source-of-requires : tie.Need-source-of-requires
+source-of-requires c κs = search needs
+
+of-written-requires : tie.Need-of-written-requires
+of-written-requires c κs = search needs
+
+same-length : tie.Need-same-length
+same-length c = search needs
+
+returns : tie.Need-returns
+returns c = rw (c .of-written .ensures) (c .before .before .before .source-of .ensures)
+
+pub opc-source-of-relationships-part-spec : {M : Type 1} → statement M
+opc-source-of-relationships-part-spec =
+    tie.close (tie.spec source-of-requires of-written-requires same-length returns)

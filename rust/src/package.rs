@@ -1,0 +1,312 @@
+//! A package in one lent buffer: items, the parts that they make, totals.
+//!
+//! An *item* is a name and its bytes. A whole item is a part by itself; the
+//! pieces `/[0].piece`, `/[1].piece` .. `/[n].last.piece` of a name make one
+//! part once all are there, in whatever order they came. Names are kept as
+//! given and looked up without regard to the case of ASCII letters.
+//!
+//! The package lies in the caller's bytes and nowhere else: they may be
+//! stored, mapped or sent, and opened again with [`Package::open`]. The
+//! engine allocates nothing.
+//!
+//! ```
+//! use zombirels::package::{Package, OVERHEAD};
+//! use zombirels::Refusal;
+//!
+//! let mut buffer = vec![0; 10_000 + OVERHEAD];
+//! let mut slide = Package::start(&mut buffer, 10_000)?;
+//! slide.put_item(b"/Left/T3/[1].last.piece", b"world")?;
+//! slide.put_item(b"/left/t3/[0].piece", b"hello ")?;
+//! assert_eq!(slide.put_item(b"/left", b""), Err(Refusal::Derivable));
+//!
+//! let mut content = [0; 64];
+//! let length = slide.read_part(b"/LEFT/T3", 0, &mut content)?;
+//! assert_eq!(&content[..length], b"hello world");
+//! # Ok::<(), Refusal>(())
+//! ```
+
+use crate::ffi::{self, Reply};
+use crate::Refusal;
+
+/// What the buffer must have beside the capacity, in bytes.
+pub const OVERHEAD: usize = 32_768;
+
+/// The greatest capacity that [`Package::start`] takes.
+pub const CAPACITY_MAX: u64 = 1_000_000;
+
+/// How many items a package holds at most.
+pub const ITEMS_MAX: usize = 256;
+
+/// A package in a lent buffer.
+#[derive(Debug)]
+pub struct Package<'a> {
+    buffer: &'a mut [u8],
+}
+
+/// What [`Package::totals`] answers.
+#[derive(Clone, Copy, Debug, PartialEq, Eq, Hash)]
+pub struct Totals {
+    /// How many items are held.
+    pub items: usize,
+    /// How many parts they make. Pieces are none before the last has come.
+    pub parts: usize,
+    /// The bytes that all fields of all entries have together.
+    pub charge: usize,
+}
+
+impl<'a> Package<'a> {
+    /// Makes an empty package of `buffer`, whatever it held. `capacity` is the
+    /// greatest charge that the package takes.
+    ///
+    /// # Errors
+    ///
+    /// [`Refusal::BadStart`] if `capacity` is above [`CAPACITY_MAX`] or the
+    /// buffer has less than `capacity` + [`OVERHEAD`] bytes; these are as they
+    /// were.
+    pub fn start(buffer: &'a mut [u8], capacity: u64) -> Result<Package<'a>, Refusal> {
+        let mut package = Package { buffer };
+        package.restart(capacity)?;
+        Ok(package)
+    }
+
+    /// Takes `buffer` for a package that was started in it before. Nothing is
+    /// looked at yet: if it is none, every call is refused by
+    /// [`Refusal::NotAPackage`].
+    ///
+    /// ```
+    /// use zombirels::package::{Package, OVERHEAD};
+    /// let mut buffer = vec![0; 100 + OVERHEAD];
+    /// Package::start(&mut buffer, 100)?.put_item(b"/a", b"tile")?;
+    /// let mut stored = buffer.clone();
+    /// assert_eq!(Package::open(&mut stored).find_item(b"/A"), Ok(4));
+    /// assert!(Package::open(&mut [0; 100]).totals().is_err());
+    /// # Ok::<(), zombirels::Refusal>(())
+    /// ```
+    pub fn open(buffer: &'a mut [u8]) -> Package<'a> {
+        Package { buffer }
+    }
+
+    /// Empties the package and gives it another capacity.
+    ///
+    /// # Errors
+    ///
+    /// As [`Package::start`]; everything that was held still is.
+    pub fn restart(&mut self, capacity: u64) -> Result<(), Refusal> {
+        // SAFETY: pointer and length come from one slice, lent for writing.
+        let reply =
+            unsafe { ffi::opc_start(self.buffer.as_mut_ptr(), self.buffer.len(), capacity) };
+        done(reply)
+    }
+
+    /// The lent bytes.
+    pub fn as_bytes(&self) -> &[u8] {
+        self.buffer
+    }
+
+    /// Gives the lent bytes back.
+    pub fn into_bytes(self) -> &'a mut [u8] {
+        self.buffer
+    }
+
+    /// Holds a whole item (`/t3`) or a piece (`/t3/[0].piece`).
+    ///
+    /// # Errors
+    ///
+    /// [`Refusal::NotAPackage`]; [`Refusal::BadSuffix`],
+    /// [`Refusal::NotAPartName`] or [`Refusal::Reserved`] for the name;
+    /// [`Refusal::Taken`], [`Refusal::PiecesDisagree`] or
+    /// [`Refusal::Derivable`] beside the held items; [`Refusal::Full`].
+    pub fn put_item(&mut self, name: &[u8], bytes: &[u8]) -> Result<(), Refusal> {
+        // SAFETY: each pointer and its length come from one slice; the
+        // package's is lent for writing.
+        let reply = unsafe {
+            ffi::opc_put_item(
+                self.buffer.as_mut_ptr(),
+                self.buffer.len(),
+                name.as_ptr(),
+                name.len(),
+                bytes.as_ptr(),
+                bytes.len(),
+            )
+        };
+        done(reply)
+    }
+
+    /// Drops the item with an equivalent prefix, the same number and the same
+    /// last mark. Its charge is free again.
+    ///
+    /// # Errors
+    ///
+    /// [`Refusal::NotAPackage`]; [`Refusal::BadSuffix`],
+    /// [`Refusal::NotAPartName`] or [`Refusal::Reserved`] for the name;
+    /// [`Refusal::NotHeld`].
+    pub fn drop_item(&mut self, name: &[u8]) -> Result<(), Refusal> {
+        // SAFETY: each pointer and its length come from one slice; the
+        // package's is lent for writing.
+        let reply = unsafe {
+            ffi::opc_drop_item(
+                self.buffer.as_mut_ptr(),
+                self.buffer.len(),
+                name.as_ptr(),
+                name.len(),
+            )
+        };
+        done(reply)
+    }
+
+    /// The length of an item.
+    ///
+    /// # Errors
+    ///
+    /// [`Refusal::NotAPackage`]; [`Refusal::BadSuffix`] or
+    /// [`Refusal::NotAPartName`] for the name; [`Refusal::NotHeld`].
+    pub fn find_item(&self, name: &[u8]) -> Result<usize, Refusal> {
+        // SAFETY: each pointer and its length come from one slice.
+        let reply = unsafe {
+            ffi::opc_find_item(
+                self.buffer.as_ptr(),
+                self.buffer.len(),
+                name.as_ptr(),
+                name.len(),
+            )
+        };
+        reply.values().map(|[length]| length)
+    }
+
+    /// The bytes of an item, where they lie in the package. Where
+    /// [`Package::find_item`] is refused they are none.
+    ///
+    /// ```
+    /// use zombirels::package::{Package, OVERHEAD};
+    /// let mut buffer = vec![0; 100 + OVERHEAD];
+    /// let mut slide = Package::start(&mut buffer, 100)?;
+    /// slide.put_item(b"/T3", b"tile")?;
+    /// assert_eq!(slide.view_item(b"/t3"), b"tile");
+    /// assert_eq!(slide.view_item(b"/t4"), b"");
+    /// # Ok::<(), zombirels::Refusal>(())
+    /// ```
+    pub fn view_item(&self, name: &[u8]) -> &[u8] {
+        // SAFETY: each pointer and its length come from one slice.
+        let reply = unsafe {
+            ffi::opc_view_item(
+                self.buffer.as_ptr(),
+                self.buffer.len(),
+                name.as_ptr(),
+                name.len(),
+            )
+        };
+        match reply.values() {
+            Ok([offset, length]) => &self.buffer[offset..][..length],
+            Err(_) => &[],
+        }
+    }
+
+    /// Copies the content of a part from `offset` on, as much as `out` takes,
+    /// and answers how many bytes that were. What stood past these is kept.
+    ///
+    /// # Errors
+    ///
+    /// [`Refusal::NotAPackage`]; [`Refusal::NotAPartName`];
+    /// [`Refusal::NotHeld`] if no items make that part, or not yet.
+    ///
+    /// ```
+    /// use zombirels::package::{Package, OVERHEAD};
+    /// use zombirels::Refusal;
+    /// let mut buffer = vec![0; 100 + OVERHEAD];
+    /// let mut slide = Package::start(&mut buffer, 100)?;
+    /// slide.put_item(b"/t3/[0].piece", b"abc")?;
+    /// let mut out = [0; 4];
+    /// assert_eq!(slide.read_part(b"/t3", 0, &mut out), Err(Refusal::NotHeld));
+    /// slide.put_item(b"/t3/[1].last.piece", b"def")?;
+    /// assert_eq!(slide.read_part(b"/t3", 0, &mut out), Ok(4));
+    /// assert_eq!(&out, b"abcd");
+    /// assert_eq!(slide.read_part(b"/t3", 4, &mut out), Ok(2));
+    /// assert_eq!(&out, b"efcd");
+    /// # Ok::<(), Refusal>(())
+    /// ```
+    pub fn read_part(&self, name: &[u8], offset: u64, out: &mut [u8]) -> Result<usize, Refusal> {
+        // SAFETY: each pointer and its length come from one slice; the
+        // output's is lent for writing.
+        let reply = unsafe {
+            ffi::opc_read_part(
+                self.buffer.as_ptr(),
+                self.buffer.len(),
+                name.as_ptr(),
+                name.len(),
+                offset,
+                out.as_mut_ptr(),
+                out.len(),
+            )
+        };
+        reply.values().map(|[length]| length)
+    }
+
+    /// Copies the name of the part at a position, from 0, in folded order, and
+    /// answers its length. 255 bytes always suffice.
+    ///
+    /// # Errors
+    ///
+    /// [`Refusal::NotAPackage`]; [`Refusal::NotHeld`] if there are not so many
+    /// parts; [`Refusal::OutputTooShort`].
+    ///
+    /// ```
+    /// use zombirels::package::{Package, OVERHEAD};
+    /// let mut buffer = vec![0; 100 + OVERHEAD];
+    /// let mut slide = Package::start(&mut buffer, 100)?;
+    /// slide.put_item(b"/b", b"")?;
+    /// slide.put_item(b"/A", b"")?;
+    /// let mut out = [0; 255];
+    /// let mut names = Vec::new();
+    /// for position in 0.. {
+    ///     let Ok(length) = slide.part_at(position, &mut out) else { break };
+    ///     names.push(out[..length].to_vec());
+    /// }
+    /// assert_eq!(names, [b"/A", b"/b"]);
+    /// # Ok::<(), zombirels::Refusal>(())
+    /// ```
+    pub fn part_at(&self, position: u64, out: &mut [u8]) -> Result<usize, Refusal> {
+        // SAFETY: each pointer and its length come from one slice; the
+        // output's is lent for writing.
+        let reply = unsafe {
+            ffi::opc_part_at(
+                self.buffer.as_ptr(),
+                self.buffer.len(),
+                position,
+                out.as_mut_ptr(),
+                out.len(),
+            )
+        };
+        reply.values().map(|[length]| length)
+    }
+
+    /// How many items are held, how many parts they make, and the charge.
+    ///
+    /// # Errors
+    ///
+    /// [`Refusal::NotAPackage`].
+    ///
+    /// ```
+    /// use zombirels::package::{Package, Totals, OVERHEAD};
+    /// let mut buffer = vec![0; 100 + OVERHEAD];
+    /// let mut slide = Package::start(&mut buffer, 100)?;
+    /// slide.put_item(b"/t3", b"tile")?;
+    /// let totals = Totals { items: 1, parts: 1, charge: 7 };
+    /// assert_eq!(slide.totals(), Ok(totals));
+    /// # Ok::<(), zombirels::Refusal>(())
+    /// ```
+    pub fn totals(&self) -> Result<Totals, Refusal> {
+        // SAFETY: pointer and length come from one slice.
+        let reply = unsafe { ffi::opc_totals(self.buffer.as_ptr(), self.buffer.len()) };
+        let [items, parts, charge] = reply.values()?;
+        Ok(Totals {
+            items,
+            parts,
+            charge,
+        })
+    }
+}
+
+/// The answer of a call that names no value: it answers 0 in its place.
+fn done(reply: Reply) -> Result<(), Refusal> {
+    reply.values().map(|[_]| ())
+}
