@@ -1,5 +1,6 @@
 // Folding, and what is compared by it.
 use crate::search::byte_at;
+use crate::starts::same_start;
 ghost use mathlib.Core.Path.{_≡_};
 ghost use mathlib.Core.List.{map};
 ghost use lib.Dec.{eqb};
@@ -37,7 +38,7 @@ pub fn is_equivalent(a: &[u8], b: &[u8]) -> bool
     if a.len() != b.len() {
         return false;
     }
-    let mut i = 0;
+    let mut i = same_start(a, b);
     while i < a.len() {
         if is_same_letter(a[i], b[i]) {
             i += 1;
@@ -89,7 +90,7 @@ fn byte_order(folded: bool, p: u8, q: u8) -> u8
 fn compare_by(folded: bool, a: &[u8], b: &[u8]) -> Order
     ensures { λ r. ⌜ r ≡ order (map (inCase folded) (now (a .entry))) (map (inCase folded) (now (b .entry))) ⌝ }
 {
-    let mut i = 0;
+    let mut i = same_start(a, b);
     while i < a.len() {
         if b.len() <= i {
             return Order::Greater;

@@ -5,8 +5,8 @@ use Prim.Native.Nat.{ℕ, _+_, _-_, _≤_, _<_}
 use mathlib.Core.List.{List, _++_, append-assoc}
 use native.Mathlib.Omega.{arith}
 use native.Mathlib.Nat.{add-assoc}
-use lib.ListN.{length, take, drop, getD, length-append, length-take, length-drop, List·getD-append}
-use lib.Seq.{length-take-le, getD-take, getD-drop, getD-append-add, ext-getD}
+use lib.ListN.{length, take, drop, getD, length-append, length-take, length-drop, take-append-drop, List·getD-append}
+use lib.Seq.{length-take-le, take-add, getD-take, getD-drop, getD-append-add, ext-getD}
 use Rattle.store.specs.Buffer.{part, splice}
 
 module _ (a n : ℕ) (l : List ℕ) where
@@ -17,6 +17,14 @@ module _ (a n : ℕ) (l : List ℕ) where
   pub length-part : a + n ≤ length l → length (part a n l) ≡ n
   unfolding part
   length-part h = simp (length-take, length-drop) (omega arith)
+
+  -- a part put where it was
+  pub splice-part : a + n ≤ length l → splice l a (part a n l) ≡ l
+  unfolding splice part
+  splice-part h =
+      ap (λ (k : ℕ). take a l ++ part a n l ++ drop (a + k) l) (length-part h)
+      ∙ ap (λ (r : List ℕ). r ++ drop (a + n) l) (sym (take-add a n l))
+      ∙ take-append-drop (a + n) l
 
 module _ (l : List ℕ) (a : ℕ) (s : List ℕ) where
   pub length-splice : a + length s ≤ length l → length (splice l a s) ≡ length l

@@ -58,6 +58,9 @@ pub fn move_down(pkg: &mut [u8], from: usize, to: usize, count: usize)
     requires { ⌜ (to ≤ from) × (from + count ≤ length (now pkg)) ⌝ }
     ensures { λ _. ⌜ now (pkg .exit) ≡ splice (now (pkg .entry)) to (part from count (now (pkg .entry))) ⌝ }
 {
+    if from == to {
+        return;
+    }
     let mut i = 0;
     while i < count {
         pkg[to + i] = pkg[from + i];

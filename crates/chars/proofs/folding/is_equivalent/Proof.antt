@@ -5,6 +5,7 @@ use lib.ListN.{length, drop}
 use borrow.Author.Needs.{needs}
 use Rattle.chars.specs.Folding.{equivalent}
 use Rattle.chars.proofs.Comparisons.{lengths-differ, equivalent-at, equivalent-end}
+use Rattle.chars.proofs.SameStarts.{equivalent-skip}
 use Rattle.chars.proofs.folding.is_equivalent.Statement.{statement}
 use Rattle.chars.proofs.folding.is_equivalent.Tie as tie
 
@@ -17,8 +18,11 @@ abbrev μ-loop : tie.MeasureT-loop
 returns : tie.Need-returns Inv-loop μ-loop
 returns c = sym (lengths-differ _ _ (c .if1 .taken))
 
+same-start-requires : tie.Need-same-start-requires Inv-loop μ-loop
+same-start-requires c κs = search needs
+
 loop-holds : tie.Need-loop-holds Inv-loop μ-loop
-loop-holds c = (omega arith, refl)
+loop-holds c = (c .same-start .ensures .0, equivalent-skip _ _ _ (c .same-start .ensures .0) (c .same-start .ensures .1) (c .same-start .ensures .2))
 
 shared-slice-read-is-same-letter : tie.Need-shared-slice-read-is-same-letter Inv-loop μ-loop
 shared-slice-read-is-same-letter c = omega arith
@@ -54,6 +58,7 @@ is-equivalent-spec =
     Inv-loop
     μ-loop
     returns
+    same-start-requires
     loop-holds
     shared-slice-read-is-same-letter
     shared-slice-read-is-same-letter-2

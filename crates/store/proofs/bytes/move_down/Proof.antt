@@ -5,7 +5,7 @@ use native.Mathlib.Omega.{arith}
 use lib.ListN.{length, take, getD, set, length-set}
 use lib.Seq.{take-all, length-take-le}
 use Rattle.store.specs.Buffer.{splice, part}
-use Rattle.store.proofs.Parts.{getD-splice-after, getD-part, length-part}
+use Rattle.store.proofs.Parts.{getD-splice-after, getD-part, length-part, splice-part}
 use Rattle.store.proofs.Copies.{splice-nil, copy-turn}
 use Rattle.store.proofs.bytes.move_down.Statement.{statement}
 use Rattle.store.proofs.bytes.move_down.Tie as tie
@@ -15,6 +15,11 @@ Inv-loop pkg₀ from to count i₀ pkg i = (i ≤ count) × (length pkg ≡ leng
 
 abbrev μ-loop : tie.MeasureT-loop
 μ-loop pkg₀ from to count i₀ pkg i = count - i
+
+returns : tie.Need-returns Inv-loop μ-loop
+returns c =
+    let a = c .before .args in
+    sym (splice-part (a .from) (a .count) (a .pkg .now) (omega arith)) ∙ ap (λ (k : ℕ). splice (a .pkg .now) k (part (a .from) (a .count) (a .pkg .now))) (c .if1 .taken)
 
 loop-holds : tie.Need-loop-holds Inv-loop μ-loop
 loop-holds c = (omega arith, refl, splice-nil _ _)
@@ -54,11 +59,11 @@ loop-again c = (omega arith, simp length-set (omega arith), turn _ _ _ _ _ (omeg
 same-length : tie.Need-same-length Inv-loop μ-loop
 same-length c = omega arith
 
-returns : tie.Need-returns Inv-loop μ-loop
-returns c =
-    let a = c .before .before .args in
+returns-2 : tie.Need-returns-2 Inv-loop μ-loop
+returns-2 c =
+    let a = c .before .before .before .args in
     let e : length (part (a .from) (a .count) (a .pkg .now)) ≡ a .count = length-part _ _ _ (omega arith) in
     c .before .loop .inv .2 ∙ ap (splice _ _) (take-all (c .before .loop .i) (part (a .from) (a .count) (a .pkg .now)) (omega arith))
 
 pub move-down-spec : {M : Type 1} → statement M
-move-down-spec = tie.close (tie.spec Inv-loop μ-loop loop-holds add-pkg slice-read-pkg add-pkg-2 slice-write-pkg add-i loop-less loop-again same-length returns)
+move-down-spec = tie.close (tie.spec Inv-loop μ-loop returns loop-holds add-pkg slice-read-pkg add-pkg-2 slice-write-pkg add-i loop-less loop-again same-length returns-2)

@@ -1,0 +1,72 @@
+-- The same bytes at the beginning of two texts.
+-- Assumes nothing.
+use mathlib.Core.Path.{_≡_, refl, sym, ap, _∙_}
+use mathlib.Core.Bool.{Bool, true, false, _&&_, cond}
+use mathlib.Core.List.{List, [], _∷_, map}
+use Prim.Native.Nat.{ℕ, zero, suc, _+_, _≤_, _<_}
+use native.Mathlib.Omega.{arith}
+use lib.Dec.{eqb, ltb}
+use lib.ListN.{length, take, drop, getD}
+use lib.Seq.{drop-cons, take-add}
+use borrow.Author.Tests.{le-ltb, eq-eqb}
+use Rattle.chars.specs.Lists.{same}
+use Rattle.chars.specs.Folding.{lower, equivalent, order}
+
+module _ (s : List ℕ) where
+  take-drop-suc : (n i j : ℕ) → suc i ≡ j → i < length s → take (suc n) (drop i s) ≡ getD s i 0 ∷ take n (drop j s)
+  take-drop-suc n i j e h = rw (drop-cons s i 0 h, e)
+
+  pub take-eight : (i : ℕ) → i + 8 ≤ length s → take 8 (drop i s)
+      ≡ getD s i 0 ∷ getD s (i + 1) 0 ∷ getD s (i + 2) 0 ∷ getD s (i + 3) 0 ∷ getD s (i + 4) 0 ∷ getD s (i + 5) 0 ∷ getD s (i + 6) 0 ∷ getD s (i + 7) 0 ∷ []
+  take-eight i h =
+      rw
+      (take-drop-suc 7 i (i + 1) (omega arith) (omega arith),
+      take-drop-suc 6 (i + 1) (i + 2) (omega arith) (omega arith),
+      take-drop-suc 5 (i + 2) (i + 3) (omega arith) (omega arith),
+      take-drop-suc 4 (i + 3) (i + 4) (omega arith) (omega arith),
+      take-drop-suc 3 (i + 4) (i + 5) (omega arith) (omega arith),
+      take-drop-suc 2 (i + 5) (i + 6) (omega arith) (omega arith),
+      take-drop-suc 1 (i + 6) (i + 7) (omega arith) (omega arith),
+      take-drop-suc 0 (i + 7) (i + 8) (omega arith) (omega arith))
+
+all-eight : (p q r s t u v w : Bool) → (((((((p && q) && r) && s) && t) && u) && v) && w) ≡ (p && (q && (r && (s && (t && (u && (v && (w && true))))))))
+all-eight false q r s t u v w = refl
+all-eight true false r s t u v w = refl
+all-eight true true false s t u v w = refl
+all-eight true true true false t u v w = refl
+all-eight true true true true false u v w = refl
+all-eight true true true true true false v w = refl
+all-eight true true true true true true false w = refl
+all-eight true true true true true true true true = refl
+all-eight true true true true true true true false = refl
+
+pub same-eight : (a b : List ℕ) (i : ℕ) → i + 8 ≤ length a → i + 8 ≤ length b → (((((((eqb (getD a i 0) (getD b i 0) && eqb (getD a (i + 1) 0) (getD b (i + 1) 0)) && eqb (getD a (i + 2) 0) (getD b (i + 2) 0)) && eqb (getD a (i + 3) 0) (getD b (i + 3) 0)) && eqb (getD a (i + 4) 0) (getD b (i + 4) 0)) && eqb (getD a (i + 5) 0) (getD b (i + 5) 0)) && eqb (getD a (i + 6) 0) (getD b (i + 6) 0)) && eqb (getD a (i + 7) 0) (getD b (i + 7) 0))
+    ≡ same (take 8 (drop i a)) (take 8 (drop i b))
+unfolding same
+same-eight a b i h g = rw (take-eight a i h, take-eight b i g) (all-eight (eqb (getD a i 0) (getD b i 0)) (eqb (getD a (i + 1) 0) (getD b (i + 1) 0)) (eqb (getD a (i + 2) 0) (getD b (i + 2) 0)) (eqb (getD a (i + 3) 0) (getD b (i + 3) 0)) (eqb (getD a (i + 4) 0) (getD b (i + 4) 0)) (eqb (getD a (i + 5) 0) (getD b (i + 5) 0)) (eqb (getD a (i + 6) 0) (getD b (i + 6) 0)) (eqb (getD a (i + 7) 0) (getD b (i + 7) 0)))
+
+-- i bytes more that are the same
+pub take-longer : (a b : List ℕ) (i k : ℕ) → take i a ≡ take i b → take k (drop i a) ≡ take k (drop i b) → take (i + k) a ≡ take (i + k) b
+take-longer a b i k e f = rw (take-add i k a, take-add i k b, e, f)
+
+head-same : (x y : ℕ) (a b : List ℕ) → _≡_ {A = List ℕ} (x ∷ a) (y ∷ b) → x ≡ y
+head-same x y a b e = ap (λ (l : List ℕ). getD l 0 0) e
+
+tail-same : (x y : ℕ) (a b : List ℕ) → _≡_ {A = List ℕ} (x ∷ a) (y ∷ b) → a ≡ b
+tail-same x y a b e = ap (λ (l : List ℕ). drop 1 l) e
+
+pub equivalent-skip : (i : ℕ) (a b : List ℕ) → i ≤ length a → i ≤ length b → take i a ≡ take i b → equivalent a b ≡ equivalent (drop i a) (drop i b)
+unfolding equivalent same
+equivalent-skip zero a b h g e = refl
+equivalent-skip (suc i) [] b h g e = absurd (omega arith)
+equivalent-skip (suc i) (x ∷ a) [] h g e = absurd (omega arith)
+equivalent-skip (suc i) (x ∷ a) (y ∷ b) h g e =
+    rw (head-same x y (take i a) (take i b) e, eq-eqb (lower y) (lower y) refl) (equivalent-skip i a b (omega arith) (omega arith) (tail-same x y (take i a) (take i b) e))
+
+pub order-skip : (f : ℕ → ℕ) (i : ℕ) (a b : List ℕ) → i ≤ length a → i ≤ length b → take i a ≡ take i b → order (map f a) (map f b) ≡ order (map f (drop i a)) (map f (drop i b))
+unfolding order
+order-skip f zero a b h g e = refl
+order-skip f (suc i) [] b h g e = absurd (omega arith)
+order-skip f (suc i) (x ∷ a) [] h g e = absurd (omega arith)
+order-skip f (suc i) (x ∷ a) (y ∷ b) h g e =
+    rw (head-same x y (take i a) (take i b) e, le-ltb (f y) (f y) (omega arith)) (order-skip f i a b (omega arith) (omega arith) (tail-same x y (take i a) (take i b) e))

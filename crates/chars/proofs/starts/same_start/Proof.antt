@@ -1,0 +1,58 @@
+use mathlib.Core.Path.{_≡_, refl, sym, _∙_}
+use Prim.Native.Nat.{_-_, _≤_}
+use native.Mathlib.Omega.{arith}
+use lib.ListN.{length, take}
+use borrow.Author.Needs.{needs}
+use Rattle.chars.proofs.Equivalence.{same-eq}
+use Rattle.chars.proofs.SameStarts.{take-longer}
+use Rattle.chars.proofs.starts.same_start.Statement.{statement}
+use Rattle.chars.proofs.starts.same_start.Tie as tie
+
+abbrev Inv-loop : tie.InvT-loop
+Inv-loop a b n i₀ i = (i ≤ n) × (n ≤ length a) × (n ≤ length b) × (take i a ≡ take i b)
+
+abbrev μ-loop : tie.MeasureT-loop
+μ-loop a b n i₀ i = n - i
+
+smaller-requires : tie.Need-smaller-requires Inv-loop μ-loop
+smaller-requires c κs = search needs
+
+loop-holds : tie.Need-loop-holds Inv-loop μ-loop
+loop-holds c = (omega arith, c .smaller .ensures .0, c .smaller .ensures .1, refl)
+
+sub-loop : tie.Need-sub-loop Inv-loop μ-loop
+sub-loop c = omega arith
+
+is-same-eight-requires : tie.Need-is-same-eight-requires Inv-loop μ-loop
+is-same-eight-requires c κs = (omega arith, omega arith)
+
+add-i : tie.Need-add-i Inv-loop μ-loop
+add-i c = omega arith
+
+loop-less : tie.Need-loop-less Inv-loop μ-loop
+loop-less c = omega arith
+
+loop-again : tie.Need-loop-again Inv-loop μ-loop
+loop-again c = (omega arith, omega arith, omega arith, take-longer (c .before .before .before .before .before .before .before .args .a .now) (c .before .before .before .before .before .before .before .args .b .now) (c .before .before .before .loop .i) 8 (c .before .before .before .loop .inv .3) (same-eq _ _ (sym (c .before .is-same-eight .ensures) ∙ c .if1 .taken)))
+
+returns : tie.Need-returns Inv-loop μ-loop
+returns c = (omega arith, omega arith, c .before .before .before .loop .inv .3)
+
+returns-2 : tie.Need-returns-2 Inv-loop μ-loop
+returns-2 c = (omega arith, omega arith, c .before .loop .inv .3)
+
+pub same-start-spec : {M : Type 1} → statement M
+same-start-spec =
+    tie.close
+    (tie.spec
+    Inv-loop
+    μ-loop
+    smaller-requires
+    loop-holds
+    sub-loop
+    is-same-eight-requires
+    add-i
+    loop-less
+    loop-again
+    returns
+    returns-2)
