@@ -1,8 +1,8 @@
 //! Random lists of calls on one package: the archive beside the ledger of the
 //! reference. Compared are every answer, every output byte, every viewed byte.
 //!
-//! ZOMBIRELS_LISTS sets how many lists each kind gets; 20,000 lists in all are
-//! `ZOMBIRELS_LISTS=4000 cargo test --release --offline --test package`.
+//! There are five kinds of lists, 20,000 lists in all. ZOMBIRELS_LISTS sets how
+//! many each kind gets.
 
 mod support;
 
@@ -12,7 +12,7 @@ use support::{numbers, show, Random};
 use zombirels::package::{Package, CAPACITY_MAX, ITEMS_MAX, OVERHEAD};
 
 /// How many lists each kind gets if ZOMBIRELS_LISTS is not set.
-const LISTS: usize = 1000;
+const LISTS: usize = 4000;
 
 /// What stands on both sides of lent bytes and must stay.
 const GUARD: usize = 32;

@@ -1,4 +1,5 @@
 // The same bytes at the beginning of two texts, eight at a time: names of a package mostly begin alike.
+use crate::numbers::smaller;
 ghost use mathlib.Core.Path.{_≡_};
 ghost use Prim.Native.Nat.{_+_, _≤_};
 ghost use lib.ListN.{length, take, drop};
@@ -16,15 +17,6 @@ fn is_same_eight(a: &[u8], b: &[u8], i: usize) -> bool
         & (a[i + 5] == b[i + 5])
         & (a[i + 6] == b[i + 6])
         & (a[i + 7] == b[i + 7])
-}
-
-fn smaller(x: usize, y: usize) -> usize
-    ensures { λ r. ⌜ (r ≤ x) × (r ≤ y) ⌝ }
-{
-    if x < y {
-        return x;
-    }
-    y
 }
 
 // So many bytes at least, at the beginning, are the same in both.

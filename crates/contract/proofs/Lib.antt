@@ -4,3 +4,8 @@ pub mod RowOrders
 pub mod RowCharges
 pub mod Rans
 pub mod ItemRows
+pub mod SetRows
+pub mod FieldSizes
+pub mod FirstRefusals
+pub mod RowEntries
+pub mod SetStates

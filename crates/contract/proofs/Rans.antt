@@ -2,15 +2,15 @@
 -- Assumes nothing.
 use Prim.Native.Nat.{ℕ, _+_, _≤_, _<_}
 use mathlib.Core.Path.{_≡_, refl, ap, sym, _∙_, subst}
-use mathlib.Core.Bool.{Bool, true, false, true≢false}
+use mathlib.Core.Bool.{Bool, true, false, not, true≢false}
 use mathlib.Core.List.{List, [], _∷_, _++_}
 use native.Mathlib.Omega.{arith}
 use lib.Dec.{leb, eqb}
 use lib.ListN.{length, drop, replicate}
-use borrow.Author.Tests.{eq-eqb, ne-eqb, le-leb}
+use borrow.Author.Tests.{eq-eqb, ne-eqb, le-leb, not-true, not-false}
 use Rattle.iri.specs.Answers.{Answer, answer}
 use Rattle.model.specs.Package.{State, empty}
-use Rattle.model.specs.Calls.{Look, Change, Print, Call, Start, Looks, Changes, Prints, Printed, Text, Refused, done, refused, pick, changed, startRefusal, step, look, change, printed, filled, valueCount}
+use Rattle.model.specs.Calls.{Look, Change, Print, Call, Start, Looks, Changes, Prints, Printed, Text, Refused, done, refused, pick, changed, startRefusal, step, look, change, changeRefusal, changeMade, printed, filled, valueCount}
 use Rattle.model.proofs.Steps.{empty-good, change-good}
 use Rattle.store.specs.Packages.{isPackage}
 use Rattle.store.proofs.PackageTest.{sound-package}
@@ -91,3 +91,27 @@ start-refused C p n e z =
       begun = ((λ y. absurd (z′ y)), (λ _. ap refused (sym e)));
       sized = refl;
     }
+
+-- a change whose answer and bytes are the ledger's, made or refused
+pub ran-changed : (p : List ℕ) → isPackage p ≡ true → (c : Change) (a : Answer) (q : List ℕ) → length q ≡ length p → ((a .number ≡ 0 → ⊥) → (q ≡ p) × (a .output ≡ [])) →
+    ((S : State) → Holds p S → (a ≡ change S c .0) × Lies q (change S c .1)) → Ran (Changes c) p a q
+ran-changed p t c a q l k e = record {
+  ledger = λ S h. (e S h .0, record { lies = e S h .1; good = change-good S c (h .good) });
+  kept = k;
+  foreign = λ _ f. absurd (true≢false (sym t ∙ f));
+  begun = tt;
+  sized = l;
+}
+
+-- a change that is refused by its fields
+pub field-refused : (p : List ℕ) → isPackage p ≡ true → (c : Change) (n : ℕ) → (n ≡ 0 → ⊥) → ((S : State) → changeRefusal S c ≡ n) → Ran (Changes c) p (refused n) p
+unfolding change
+field-refused p t c n z e = change-refused p t c n (λ S h. ap (λ (j : ℕ). changed j S (changeMade S c)) (e S) ∙ changed-refused n S (changeMade S c) z)
+
+-- x is the test of the buffer
+module _ (p : List ℕ) (x : Bool) (ex : x ≡ isPackage p) where
+  pub closed : not x ≡ true → isPackage p ≡ false
+  closed h = sym ex ∙ not-true x h
+
+  pub opened : not x ≡ false → isPackage p ≡ true
+  opened h = sym ex ∙ not-false x h

@@ -22,7 +22,7 @@ use Rattle.contract.proofs.RowKeys.{item-row-key, item-row-set, default
 
 -- LISTS
 module _ {E : Type 0} where
-  each-append : (P : E → Type 0) (xs ys : List E) → Each P xs → Each P ys → Each P (xs ++ ys)
+  pub each-append : (P : E → Type 0) (xs ys : List E) → Each P xs → Each P ys → Each P (xs ++ ys)
   each-append P [] ys a b = b
   each-append P (x ∷ xs) ys a b = (a .0, each-append P xs ys (a .1) b)
 
@@ -31,7 +31,7 @@ module _ {E : Type 0} where
   pairs-append R (x ∷ xs) ys a b c = (each-append (R x) xs ys (a .0) (c .0), pairs-append R xs ys (a .1) b (c .1))
 
 module _ {E F : Type 0} (f : E → F) where
-  each-of : (P : F → Type 0) → ((x : E) → P (f x)) → (xs : List E) → Each P (map f xs)
+  pub each-of : (P : F → Type 0) → ((x : E) → P (f x)) → (xs : List E) → Each P (map f xs)
   each-of P h [] = tt
   each-of P h (x ∷ xs) = (h x, each-of P h xs)
 

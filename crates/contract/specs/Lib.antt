@@ -3,3 +3,4 @@ pub mod Holds
 pub mod Answers
 pub mod Ran
 pub mod Searches
+pub mod Entries

@@ -1,8 +1,9 @@
 // Copying into a lent output.
+use chars::numbers::smaller;
 use iri::writing::Written;
 use store::bytes::copy_in;
 ghost use mathlib.Core.Path.{_≡_};
-ghost use Prim.Native.Nat.{_-_, _≤_, min};
+ghost use Prim.Native.Nat.{_-_, _≤_};
 ghost use lib.ListN.{length, take, drop};
 ghost use Rattle.iri.specs.Answers.{Text, ofWritten, written};
 ghost use Rattle.iri.specs.Scratch.{Sent};
@@ -16,15 +17,6 @@ pub fn put_all(text: &[u8], out: &mut [u8]) -> Written
     }
     copy_in(out, 0, text);
     Written::Bytes(text.len())
-}
-
-fn smaller(a: usize, b: usize) -> usize
-    ensures { λ r. ⌜ (r ≡ min a b) × (r ≤ a) × (r ≤ b) ⌝ }
-{
-    if a <= b {
-        return a;
-    }
-    b
 }
 
 // Copies what a text has past `skip` bytes to place `at` of the output, as much as fits there. The place behind it.

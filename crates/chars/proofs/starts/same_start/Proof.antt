@@ -18,7 +18,7 @@ smaller-requires : tie.Need-smaller-requires Inv-loop μ-loop
 smaller-requires c κs = search needs
 
 loop-holds : tie.Need-loop-holds Inv-loop μ-loop
-loop-holds c = (omega arith, c .smaller .ensures .0, c .smaller .ensures .1, refl)
+loop-holds c = (omega arith, c .smaller .ensures .1, c .smaller .ensures .2, refl)
 
 sub-loop : tie.Need-sub-loop Inv-loop μ-loop
 sub-loop c = omega arith

@@ -1,0 +1,224 @@
+-- A row found by its key, put in, taken out: each way out of the functions that do it.
+-- Assumes nothing.
+use Prim.Native.Nat.{ℕ, suc, _+_, _-_, _≤_, _<_}
+use mathlib.Core.Path.{_≡_, refl, ap, ap₂, sym, _∙_}
+use mathlib.Core.Bool.{Bool, true, false, _||_, cond, true≢false}
+use mathlib.Core.List.{List, [], _∷_, _++_}
+use native.Mathlib.Omega.{arith}
+use lib.Dec.{leb, ltb, eqb}
+use lib.ListN.{length, getD, take, drop}
+use borrow.Author.Tests.{lt-ltb, le-ltb, le-leb, lt-leb, leb-true, leb-false, ltb-true, ltb-false}
+use Rattle.chars.specs.declared.folding.Order.{Order}
+use Rattle.model.specs.Sets.{Bytes, Key, isEqual, sameKey, held, lookup, insert, remove}
+use Rattle.model.specs.Places.{bound, place, spot}
+use Rattle.model.specs.Calls.{done, refused}
+use Rattle.model.proofs.Bools.{not-passing}
+use Rattle.model.proofs.KeyOrders.{same-key-sym}
+use Rattle.model.proofs.Sets.{absent}
+use Rattle.model.proofs.Places.{insert-at, remove-at, lookup-at, lookup-none, bound-hit, bound-miss, bound-place}
+use Rattle.model.proofs.Walks.{first-le}
+use Rattle.store.specs.Layout.{countOf, usedOf, capOf, slotCount}
+use Rattle.store.specs.Rows.{Row, noRow, makeRow, rowSize, rowAt, rowsOf, insertAt, removeAt}
+use Rattle.store.specs.Packages.{Sound, Room, Inserted, Removed}
+use Rattle.store.proofs.Headers.{rows-count, row-getD}
+use Rattle.contract.specs.Rows.{setOf, keyIn, rowKey}
+use Rattle.contract.specs.Searches.{Ordered, Stands, Bounded}
+use Rattle.contract.specs.Entries.{Sought, rowCount, RowsCounted, keyTaken, noRowRoom, Weighed, Became, Entered, Dropped}
+
+-- an entry is held where its spot is one of the list
+pub held-spot : {E : Type 0} (key : E → Key) (k : Key) (xs : List E) → held (lookup key k xs) ≡ ltb (spot key k xs) (length xs)
+held-spot {E} key k xs = go (ltb (spot key k xs) (length xs)) refl
+  where
+    go : (t : Bool) → ltb (spot key k xs) (length xs) ≡ t → held (lookup key k xs) ≡ t
+    go true e = held-some xs (ltb-true (spot key k xs) (length xs) e)
+      where
+        held-some : (ys : List E) → spot key k ys < length ys → held (lookup key k ys) ≡ true
+        held-some [] l = absurd (omega arith)
+        held-some (y ∷ ys) l = ap held (lookup-at key k (y ∷ ys) y l)
+    go false e = ap held (lookup-none key k xs (ltb-false (spot key k xs) (length xs) e))
+
+-- FINDING
+module _ (b : List ℕ) (k : Key) (m r : ℕ) (em : m ≡ countOf b) (eb : Bounded b k r) where
+  pub missed : (Ordered b → r < m → sameKey k (rowKey (rowAt b r)) ≡ false) → Sought b k m
+  missed h = record { within = omega arith; is = λ q. at-end q }
+    where
+      at-end : Ordered b → m ≡ spot rowKey k (rowsOf b)
+      at-end q =
+          let e = eb .is q in
+          let n = rows-count b in
+          let B = bound rowKey k (rowsOf b) in
+          let miss : B < length (rowsOf b) → sameKey k (rowKey (getD (rowsOf b) B noRow)) ≡ false =
+          λ l. ap (λ (x : Row). sameKey k (rowKey x)) (ap (λ (i : ℕ). getD (rowsOf b) i noRow) (sym e) ∙ row-getD b r (omega arith)) ∙ h q (omega arith) in
+          let z = sym (held-spot rowKey k (rowsOf b)) ∙ ap held (bound-miss rowKey k (rowsOf b) noRow (q .sorted) miss) in
+          omega (arith, ltb-false (spot rowKey k (rowsOf b)) (length (rowsOf b)) z, first-le (λ (x : Row). sameKey k (rowKey x)) (rowsOf b))
+
+  pub sought-none : m ≤ r → Sought b k m
+  sought-none l = missed (λ _ i. absurd (omega arith))
+
+  module _ (o : Order) (st : Stands b r k o) (z : Bool) (ez : z ≡ isEqual o) (l : r < m) where
+    same-is : Sound b → sameKey (rowKey (rowAt b r)) k ≡ z
+    same-is s = sym (ez ∙ ap isEqual (st .is s (omega arith)))
+
+    pub sought-other : z ≡ false → Sought b k m
+    sought-other e = missed (λ q i. not-passing (sameKey k (rowKey (rowAt b r))) (λ y. true≢false (sym (same-key-sym k (rowKey (rowAt b r)) y) ∙ same-is (q .sound) ∙ e)))
+
+    pub sought-here : z ≡ true → Sought b k r
+    sought-here e = record { within = eb .within; is = λ q. here q }
+      where
+        here : Ordered b → r ≡ spot rowKey k (rowsOf b)
+        here q =
+            let f = eb .is q in
+            let n = rows-count b in
+            let s : sameKey k (rowKey (getD (rowsOf b) (bound rowKey k (rowsOf b)) noRow)) ≡ true =
+            ap (λ (x : Row). sameKey k (rowKey x)) (ap (λ (i : ℕ). getD (rowsOf b) i noRow) (sym f) ∙ row-getD b r (omega arith))
+            ∙ same-key-sym (rowKey (rowAt b r)) k (same-is (q .sound) ∙ e) in
+            f ∙ sym (bound-hit rowKey k (rowsOf b) noRow (q .sorted) (omega arith) s)
+
+-- COUNTING
+module _ (b : List ℕ) (n m f t : ℕ) (em : m ≡ suc n) (ef : Bounded b (keyIn n [] 0 []) f) (et : Bounded b (keyIn m [] 0 []) t) where
+  pub counted : (r : ℕ) → r ≡ t - f → RowsCounted b n r
+  counted r e = record { is = λ q. e ∙ ap₂ _-_ (et .is q ∙ ap (λ (i : ℕ). bound rowKey (keyIn i [] 0 []) (rowsOf b)) em) (ef .is q) }
+
+-- ROOM
+pub room-left : (room a b c d : ℕ) → a ≤ room → b ≤ room - a → c ≤ room - a - b → leb d (room - a - b - c) ≡ leb (a + (b + (c + d))) room
+room-left room a b c d h i j = go (leb d (room - a - b - c)) refl
+  where
+    go : (t : Bool) → leb d (room - a - b - c) ≡ t → t ≡ leb (a + (b + (c + d))) room
+    go true e = sym (le-leb (a + (b + (c + d))) room (omega (arith, leb-true d (room - a - b - c) e)))
+    go false e = sym (lt-leb (a + (b + (c + d))) room (omega (arith, leb-false d (room - a - b - c) e)))
+
+-- TAKING OUT
+module _ (b : List ℕ) (k : Key) (r m : ℕ) (er : Sought b k r) (em : m ≡ countOf b) where
+  held-is : Ordered b → held (lookup rowKey k (rowsOf b)) ≡ ltb r m
+  held-is q = held-spot rowKey k (rowsOf b) ∙ ap₂ ltb (sym (er .is q)) (rows-count b ∙ sym em)
+
+  pub drop-missing : m ≤ r → Dropped b k (refused 13) b
+  drop-missing l = record {
+    kept = λ _. (refl, refl);
+    missing = λ _ _. refl;
+    made = λ q h. absurd (true≢false (sym h ∙ held-is q ∙ le-ltb r m l));
+  }
+
+  removed-is : (q : List ℕ) → r < m → Removed b q r → Ordered b → Became b q (remove rowKey k (rowsOf b))
+  unfolding removeAt
+  removed-is q l x o =
+      let e = er .is o in
+      let n = rows-count b in
+      let j : spot rowKey k (rowsOf b) < length (rowsOf b) = omega arith in
+      let s : r + 1 ≡ suc (spot rowKey k (rowsOf b)) = omega arith in
+      record {
+        sound = x .sound;
+        rows = x .rows ∙ ap₂ (λ (i j : ℕ). take i (rowsOf b) ++ drop j (rowsOf b)) e s ∙ sym (remove-at rowKey k (rowsOf b) j);
+        cap = x .cap;
+      }
+
+  pub drop-done : (q : List ℕ) → r < m → (Sound b → Removed b q r) → Dropped b k done q
+  drop-done q l rm = record {
+    kept = λ z. absurd (z refl);
+    missing = λ o h. absurd (true≢false (sym (held-is o ∙ lt-ltb r m l) ∙ h));
+    made = λ o h. (refl, removed-is q l (rm (o .sound)) o);
+  }
+
+-- PUTTING IN. The refusal of a new row
+module _ (b : List ℕ) (limit t : ℕ) (f0 f1 f2 f3 : Bytes) (m set r : ℕ) (em : m ≡ countOf b) (es : set ≡ setOf t) (er : Sought b (keyIn set f0 t f1) r) where
+  abbrev X : Row
+  X = makeRow t f0 f1 f2 f3
+
+  taken-is : Ordered b → keyTaken b X ≡ ltb r m
+  taken-is q = ap (λ (n : ℕ). held (lookup rowKey (keyIn n f0 t f1) (rowsOf b))) (sym es) ∙ held-is b (keyIn set f0 t f1) r m er em q
+
+  pub weighed-taken : r < m → Weighed b limit X 10
+  weighed-taken l = record {
+    taken = λ _ _. refl;
+    full = λ q h _. absurd (true≢false (sym (taken-is q ∙ lt-ltb r m l) ∙ h));
+    clear = λ q h _ _. absurd (true≢false (sym (taken-is q ∙ lt-ltb r m l) ∙ h));
+    room = λ z. absurd (omega arith);
+    free = λ z _. absurd (omega arith);
+  }
+
+  module _ (l : m ≤ r) where
+    untaken : Ordered b → keyTaken b X ≡ false
+    untaken q = taken-is q ∙ le-ltb r m l
+
+    -- 15, where there is no room or no slot
+    fifteen : (Ordered b → noRowRoom b limit X ≡ false → countOf b < slotCount → ⊥) → Weighed b limit X 15
+    fifteen f = record {
+      taken = λ q h. absurd (true≢false (sym h ∙ untaken q));
+      full = λ _ _ _. refl;
+      clear = λ q _ g s. absurd (f q g s);
+      room = λ z. absurd (omega arith);
+      free = λ z _. absurd (omega arith);
+    }
+
+    module _ (n : ℕ) (en : RowsCounted b set n) where
+      room-is : Ordered b → noRowRoom b limit X ≡ (leb limit n || ltb (capOf b) (usedOf b + rowSize X))
+      room-is q = ap (λ (c : ℕ). leb limit c || ltb (capOf b) (usedOf b + rowSize X)) (ap (λ (j : ℕ). rowCount j (rowsOf b)) (sym es) ∙ sym (en .is q))
+
+      pub weighed-many : limit ≤ n → Weighed b limit X 15
+      weighed-many g = fifteen (λ q f _. true≢false (rw (room-is q, le-leb limit n g) at f))
+
+      module _ (g : n < limit) where
+        pub weighed-slots : 640 ≤ m → Weighed b limit X 15
+        weighed-slots h = fifteen (λ q f s. omega arith)
+
+        module _ (h : m < 640) (f : ℕ) (ef : f + usedOf b ≡ capOf b) (z : Bool) (ez : z ≡ leb (rowSize X) f) where
+          pub weighed-over : z ≡ false → Weighed b limit X 15
+          weighed-over e =
+              let o = leb-false (rowSize X) f (sym ez ∙ e) in
+              fifteen (λ q y _. true≢false (rw (room-is q, lt-leb limit n g, lt-ltb (capOf b) (usedOf b + rowSize X) (omega arith)) at y))
+
+          pub weighed-clear : z ≡ true → Weighed b limit X 0
+          weighed-clear e =
+              let o = leb-true (rowSize X) f (sym ez ∙ e) in
+              record {
+                taken = λ q y. absurd (true≢false (sym y ∙ untaken q));
+                full = λ q _ y. absurd (true≢false (sym y ∙ room-is q ∙ rw (lt-leb limit n g, le-ltb (capOf b) (usedOf b + rowSize X) (omega arith))));
+                clear = λ _ _ _ _. refl;
+                room = λ _. (omega arith, omega arith);
+                free = λ _ q. untaken q;
+              }
+
+-- the row put in
+module _ (b : List ℕ) (limit t : ℕ) (f0 f1 f2 f3 : Bytes) (k : ℕ) (w : Weighed b limit (makeRow t f0 f1 f2 f3) k) where
+  pub entered-refused : (k ≡ 0 → ⊥) → Entered b limit (makeRow t f0 f1 f2 f3) (refused k) b
+  entered-refused z = record {
+    kept = λ _. (refl, refl);
+    taken = λ q h. ap refused (w .taken q h);
+    full = λ q h f. ap refused (w .full q h f);
+    made = λ q h f s. absurd (z (w .clear q h f s));
+  }
+
+  module _ (z : k ≡ 0) (set r : ℕ) (es : set ≡ setOf t) (eb : Bounded b (keyIn set f0 t f1) r) where
+    pub entered-room : Room b r (length f0 + (length f1 + (length f2 + length f3)))
+    entered-room = record { at = eb .within; more = w .room z .0; fits = w .room z .1 }
+
+    inserted-is : (q : List ℕ) → Inserted b q r (makeRow t f0 f1 f2 f3) → Ordered b → Became b q (insert rowKey (makeRow t f0 f1 f2 f3) (rowsOf b))
+    unfolding insertAt
+    inserted-is q x o =
+        let X = makeRow t f0 f1 f2 f3 in
+        let K = rowKey X in
+        let e : r ≡ place rowKey K (rowsOf b) =
+        eb .is o ∙ ap (λ (n : ℕ). bound rowKey (keyIn n f0 t f1) (rowsOf b)) es ∙ bound-place rowKey K (rowsOf b) (absent rowKey K (rowsOf b) (w .free z o)) in
+        record {
+          sound = x .sound;
+          rows = x .rows ∙ ap (λ (i : ℕ). take i (rowsOf b) ++ (X ∷ drop i (rowsOf b))) e ∙ sym (insert-at rowKey X (rowsOf b));
+          cap = x .cap;
+        }
+
+    pub entered-made : (q : List ℕ) → (Sound b → Inserted b q r (makeRow t f0 f1 f2 f3)) → Entered b limit (makeRow t f0 f1 f2 f3) done q
+    entered-made q ins = record {
+      kept = λ y. absurd (y refl);
+      taken = λ o h. absurd (true≢false (sym h ∙ w .free z o));
+      full = λ o h f. absurd (omega (arith, w .full o h f));
+      made = λ o _ _ _. (refl, inserted-is q (ins (o .sound)) o);
+    }
+
+pub set-le : (t : ℕ) → setOf t ≤ 3
+unfolding setOf
+set-le t = go (ltb t 32768) (eqb t 32768) (eqb t 32769)
+  where
+    go : (x y z : Bool) → cond x 0 (cond y 1 (cond z 2 3)) ≤ 3
+    go true y z = omega arith
+    go false true z = omega arith
+    go false false true = omega arith
+    go false false false = omega arith

@@ -1,0 +1,134 @@
+// The rows of Defaults, Overrides and relationships: found by their key, put in, taken out.
+use crate::answers::Did;
+use crate::search::bound;
+use crate::search::set_of;
+use crate::search::stands;
+use chars::folding::Order;
+use store::header::count;
+use store::header::free;
+use store::rows::insert;
+use store::rows::remove;
+ghost use mathlib.Core.Path.{_≡_};
+ghost use Prim.Native.Nat.{_+_, _^_, _≤_, _<_};
+ghost use lib.Dec.{leb};
+ghost use lib.ListN.{length};
+ghost use Rattle.model.specs.Sets.{isEqual};
+ghost use Rattle.store.specs.Rows.{makeRow};
+ghost use Rattle.store.specs.Packages.{Shape};
+ghost use Rattle.contract.specs.Rows.{keyIn};
+ghost use Rattle.contract.specs.Answers.{ofDid};
+ghost use Rattle.contract.specs.Entries.{Sought, RowsCounted, Weighed, Entered, Dropped};
+
+fn is_equal(o: Order) -> bool
+    ensures { λ r. ⌜ r ≡ isEqual o ⌝ }
+{
+    match o {
+        Order::Less => false,
+        Order::Equal => true,
+        Order::Greater => false,
+    }
+}
+
+// The row that has the key of the set, the text p, the tag t and the id; the number of rows if there is none.
+pub fn locate(pkg: &[u8], set: usize, p: &[u8], t: usize, id: &[u8]) -> usize
+    requires { ⌜ Shape (now pkg) ⌝ }
+    ensures { λ r. ⌜ Sought (now (pkg .entry)) (keyIn set (now (p .entry)) t (now (id .entry))) r ⌝ }
+{
+    let m = count(pkg);
+    let r = bound(pkg, set, p, t, id);
+    if r < m {
+        if is_equal(stands(pkg, r, set, p, t, id)) {
+            return r;
+        }
+    }
+    m
+}
+
+// How many rows the set has.
+fn row_count(pkg: &[u8], set: usize) -> usize
+    requires { ⌜ Shape (now pkg) × (set ≤ 3) ⌝ }
+    ensures { λ r. ⌜ RowsCounted (now (pkg .entry)) set r ⌝ }
+{
+    let from = bound(pkg, set, b"", 0, b"");
+    let to = bound(pkg, set + 1, b"", 0, b"");
+    if to < from {
+        return 0;
+    }
+    to - from
+}
+
+// Whether four fields of these lengths fit into the room.
+fn has_room(room: usize, a: usize, b: usize, c: usize, d: usize) -> bool
+    ensures { λ r. ⌜ r ≡ leb (a + (b + (c + d))) room ⌝ }
+{
+    if room < a {
+        return false;
+    }
+    let x = room - a;
+    if x < b {
+        return false;
+    }
+    let y = x - b;
+    if y < c {
+        return false;
+    }
+    d <= y - c
+}
+
+// The refusal of a new row: 10, 15 or 0.
+fn row_refusal(pkg: &[u8], limit: usize, t: usize, f0: &[u8], f1: &[u8], f2: &[u8], f3: &[u8]) -> u8
+    requires { ⌜ Shape (now pkg) ⌝ }
+    ensures { λ k. ⌜ Weighed (now (pkg .entry)) limit (makeRow t (now (f0 .entry)) (now (f1 .entry)) (now (f2 .entry)) (now (f3 .entry))) k ⌝ }
+{
+    let m = count(pkg);
+    let set = set_of(t);
+    if locate(pkg, set, f0, t, f1) < m {
+        return 10;
+    }
+    if limit <= row_count(pkg, set) {
+        return 15;
+    }
+    if 640 <= m {
+        return 15;
+    }
+    if has_room(free(pkg), f0.len(), f1.len(), f2.len(), f3.len()) {
+        return 0;
+    }
+    15
+}
+
+// Puts in a row, unless its key is taken or there is no room for it.
+pub fn put_row(
+    pkg: &mut [u8],
+    limit: usize,
+    t: usize,
+    f0: &[u8],
+    f1: &[u8],
+    f2: &[u8],
+    f3: &[u8],
+) -> Did
+    requires { ⌜ Shape (now pkg) ⌝ }
+    requires { ⌜ (0 < length (now f0)) × (t < 2 ^ 32) ⌝ }
+    ensures { λ r. ⌜ Entered (now (pkg .entry)) limit (makeRow t (now (f0 .entry)) (now (f1 .entry)) (now (f2 .entry)) (now (f3 .entry))) (ofDid r) (now (pkg .exit)) ⌝ }
+{
+    let k = row_refusal(pkg, limit, t, f0, f1, f2, f3);
+    if k != 0 {
+        return Did::Refused(k);
+    }
+    let r = bound(pkg, set_of(t), f0, t, f1);
+    insert(pkg, r, t, f0, f1, f2, f3);
+    Did::Done
+}
+
+// Takes out the row of a key.
+pub fn drop_row(pkg: &mut [u8], set: usize, p: &[u8], id: &[u8]) -> Did
+    requires { ⌜ Shape (now pkg) ⌝ }
+    ensures { λ r. ⌜ Dropped (now (pkg .entry)) (keyIn set (now (p .entry)) 0 (now (id .entry))) (ofDid r) (now (pkg .exit)) ⌝ }
+{
+    let r = locate(pkg, set, p, 0, id);
+    if r < count(pkg) {
+        remove(pkg, r);
+        return Did::Done;
+    }
+    Did::Refused(13)
+}

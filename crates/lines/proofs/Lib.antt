@@ -1,0 +1,5 @@
+pub mod Commands
+pub mod Together
+pub mod Columns
+pub mod Sends
+pub mod Pieces

@@ -1,0 +1,108 @@
+// The lines that are printed.
+use iri::writing::Written;
+use iri::writing::emit;
+ghost use mathlib.Core.Path.{_≡_};
+ghost use Prim.Native.Nat.{_≤_, _<_};
+ghost use lib.ListN.{length};
+ghost use Rattle.iri.specs.Answers.{Text, ofWritten, written};
+ghost use Rattle.iri.specs.Scratch.{Sent};
+ghost use Rattle.model.specs.Sheet.{column, numberLine, typeOrDash};
+ghost use Rattle.lines.specs.Printing.{padded, cellOf, typeGiven, counts, row, rowOutcome};
+
+// The last digit of v, a space for 0.
+fn cell(v: usize) -> u8
+    ensures { λ r. ⌜ r ≡ cellOf v ⌝ }
+{
+    if v == 0 {
+        return b' ';
+    }
+    b'0' + (v % 10) as u8
+}
+
+// v in so many columns, nothing but spaces for 0.
+fn put_padded(out: &mut [u8], at: usize, v: usize, width: usize) -> usize
+    requires { ⌜ (at ≤ 1000) × (width ≤ 8) ⌝ }
+    ensures { λ r. ⌜ Sent (now (out .entry)) at (padded width v) r (now (out .exit)) ⌝ }
+{
+    if width == 0 {
+        return at;
+    }
+    let next = put_padded(out, at, v / 10, width - 1);
+    let b = [cell(v)];
+    emit(out, next, &b)
+}
+
+// n in so many columns, right-justified: of a wider number its last digits.
+fn put_number(out: &mut [u8], at: usize, n: usize, width: usize) -> usize
+    requires { ⌜ (at ≤ 1000) × (0 < width) × (width ≤ 8) ⌝ }
+    ensures { λ r. ⌜ Sent (now (out .entry)) at (column width n) r (now (out .exit)) ⌝ }
+{
+    let next = put_padded(out, at, n / 10, width - 1);
+    let b = [b'0' + (n % 10) as u8];
+    emit(out, next, &b)
+}
+
+fn put_answer(n: u8, out: &mut [u8]) -> usize
+    ensures { λ r. ⌜ Sent (now (out .entry)) 0 (numberLine n) r (now (out .exit)) ⌝ }
+{
+    let next = put_number(out, 0, n as usize, 3);
+    emit(out, next, b"\n")
+}
+
+// The line of a refusal, or of 0.
+pub fn answer_line(n: u8, out: &mut [u8]) -> Written
+    ensures { λ r. ⌜ ofWritten r (now (out .exit)) ≡ written (Text (numberLine n)) (now (out .entry)) ⌝ }
+{
+    let need = put_answer(n, &mut out[..0]);
+    if out.len() < need {
+        return Written::Short(need);
+    }
+    Written::Bytes(put_answer(n, out))
+}
+
+fn put_counts(pieces: usize, bytes: usize, out: &mut [u8]) -> usize
+    ensures { λ r. ⌜ Sent (now (out .entry)) 0 (counts pieces bytes) r (now (out .exit)) ⌝ }
+{
+    let a = put_number(out, 0, pieces, 4);
+    let b = emit(out, a, b" ");
+    let c = put_number(out, b, bytes, 8);
+    emit(out, c, b" ")
+}
+
+fn put_type(kind: &[u8], at: usize, out: &mut [u8]) -> usize
+    requires { ⌜ (at ≤ 1000) × (length (now kind) ≤ 127) ⌝ }
+    ensures { λ r. ⌜ Sent (now (out .entry)) at (typeOrDash (typeGiven (now (kind .entry)))) r (now (out .exit)) ⌝ }
+{
+    if kind.len() == 0 {
+        return emit(out, at, b"-");
+    }
+    emit(out, at, kind)
+}
+
+fn put_row(pieces: usize, bytes: usize, name: &[u8], kind: &[u8], out: &mut [u8]) -> usize
+    requires { ⌜ (length (now name) ≤ 255) × (length (now kind) ≤ 127) ⌝ }
+    ensures { λ r. ⌜ Sent (now (out .entry)) 0 (row pieces bytes (now (name .entry)) (typeGiven (now (kind .entry)))) r (now (out .exit)) ⌝ }
+{
+    let a = put_counts(pieces, bytes, out);
+    let b = emit(out, a, name);
+    let c = emit(out, b, b" ");
+    let d = put_type(kind, c, out);
+    emit(out, d, b"\n")
+}
+
+// The line of a part in a listing. An empty type stands for none.
+pub fn listing_row(pieces: usize, bytes: usize, name: &[u8], kind: &[u8], out: &mut [u8]) -> Written
+    ensures { λ r. ⌜ ofWritten r (now (out .exit)) ≡ written (rowOutcome pieces bytes (now (name .entry)) (now (kind .entry))) (now (out .entry)) ⌝ }
+{
+    if 255 < name.len() {
+        return Written::Refused(4);
+    }
+    if 127 < kind.len() {
+        return Written::Refused(7);
+    }
+    let need = put_row(pieces, bytes, name, kind, &mut out[..0]);
+    if out.len() < need {
+        return Written::Short(need);
+    }
+    Written::Bytes(put_row(pieces, bytes, name, kind, out))
+}

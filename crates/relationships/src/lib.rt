@@ -1,0 +1,2 @@
+// Relationships: put and drop.
+pub mod calls;

@@ -1,0 +1,2 @@
+pub mod TypeCalls
+pub mod TypeLookups

@@ -1,0 +1,3 @@
+// Media types: Defaults, Overrides, and the type of a part.
+pub mod calls;
+pub mod media;

@@ -1,0 +1,52 @@
+// The media type of a part.
+use contract::entries::locate;
+use iri::writing::Written;
+use names::parts::extension_at;
+use names::parts::is_part_name;
+use parts::copying::put_all;
+use parts::runs::is_part;
+use store::header::count;
+use store::header::is_package;
+use store::rows::field;
+ghost use Rattle.iri.specs.Answers.{ofWritten};
+ghost use Rattle.model.specs.Calls.{Call, Print};
+ghost use Rattle.store.specs.Packages.{Shape};
+ghost use Rattle.contract.specs.Ran.{Ran};
+ghost use Rattle.types.specs.TypeRows.{Typed};
+
+// The row of a name's Override, else that of the Default of its extension; the number of rows if it has neither.
+fn type_row(pkg: &[u8], name: &[u8]) -> usize
+    requires { ⌜ Shape (now pkg) ⌝ }
+    ensures { λ r. ⌜ Typed (now (pkg .entry)) (now (name .entry)) r ⌝ }
+{
+    let m = count(pkg);
+    let r = locate(pkg, 2, name, 0, b"");
+    if r < m {
+        return r;
+    }
+    let i = extension_at(name);
+    if i == 0 {
+        return m;
+    }
+    locate(pkg, 1, &name[i..], 0, b"")
+}
+
+// The media type of a part: its Override's, else that of the Default of its extension.
+pub fn media_type(pkg: &[u8], name: &[u8], out: &mut [u8]) -> Written
+    ensures { λ r. ⌜ Ran (Call.Prints (Print.MediaType (now (name .entry))) (now (out .entry))) (now (pkg .entry)) (ofWritten r (now (out .exit))) (now (pkg .entry)) ⌝ }
+{
+    if !is_package(pkg) {
+        return Written::Refused(1);
+    }
+    if !is_part_name(name) {
+        return Written::Refused(4);
+    }
+    if !is_part(pkg, name) {
+        return Written::Refused(13);
+    }
+    let r = type_row(pkg, name);
+    if r < count(pkg) {
+        return put_all(field(pkg, r, 1), out);
+    }
+    Written::Refused(14)
+}
