@@ -6,8 +6,8 @@ pub mod Splits
 pub mod Tiles
 pub mod UnitLengths
 pub mod UnitBytes
-pub mod SameStarts
 pub mod Comparisons
 pub mod Orders
 pub mod Equivalence
+pub mod SameStarts
 pub mod Derivability

@@ -2,7 +2,7 @@
 -- Assumes nothing.
 use mathlib.Core.Path.{_≡_, refl, sym, ap, _∙_}
 use mathlib.Core.Bool.{Bool, true, false, _&&_, cond}
-use mathlib.Core.List.{List, [], _∷_, map}
+use mathlib.Core.List.{List, [], _∷_, map, map-append}
 use Prim.Native.Nat.{ℕ, zero, suc, _+_, _≤_, _<_}
 use native.Mathlib.Omega.{arith}
 use lib.Dec.{eqb, ltb}
@@ -10,7 +10,8 @@ use lib.ListN.{length, take, drop, getD}
 use lib.Seq.{drop-cons, take-add}
 use borrow.Author.Tests.{le-ltb, eq-eqb}
 use Rattle.chars.specs.Lists.{same}
-use Rattle.chars.specs.Folding.{lower, equivalent, order}
+use Rattle.chars.specs.Folding.{lower, fold, inCase, sameEight, equivalent, order}
+use Rattle.chars.proofs.Equivalence.{same-eq, same-refl}
 
 module _ (s : List ℕ) where
   take-drop-suc : (n i j : ℕ) → suc i ≡ j → i < length s → take (suc n) (drop i s) ≡ getD s i 0 ∷ take n (drop j s)
@@ -40,14 +41,41 @@ all-eight true true true true true true false w = refl
 all-eight true true true true true true true true = refl
 all-eight true true true true true true true false = refl
 
-pub same-eight : (a b : List ℕ) (i : ℕ) → i + 8 ≤ length a → i + 8 ≤ length b → (((((((eqb (getD a i 0) (getD b i 0) && eqb (getD a (i + 1) 0) (getD b (i + 1) 0)) && eqb (getD a (i + 2) 0) (getD b (i + 2) 0)) && eqb (getD a (i + 3) 0) (getD b (i + 3) 0)) && eqb (getD a (i + 4) 0) (getD b (i + 4) 0)) && eqb (getD a (i + 5) 0) (getD b (i + 5) 0)) && eqb (getD a (i + 6) 0) (getD b (i + 6) 0)) && eqb (getD a (i + 7) 0) (getD b (i + 7) 0))
-    ≡ same (take 8 (drop i a)) (take 8 (drop i b))
-unfolding same
-same-eight a b i h g = rw (take-eight a i h, take-eight b i g) (all-eight (eqb (getD a i 0) (getD b i 0)) (eqb (getD a (i + 1) 0) (getD b (i + 1) 0)) (eqb (getD a (i + 2) 0) (getD b (i + 2) 0)) (eqb (getD a (i + 3) 0) (getD b (i + 3) 0)) (eqb (getD a (i + 4) 0) (getD b (i + 4) 0)) (eqb (getD a (i + 5) 0) (getD b (i + 5) 0)) (eqb (getD a (i + 6) 0) (getD b (i + 6) 0)) (eqb (getD a (i + 7) 0) (getD b (i + 7) 0)))
+-- the tests of eight bytes of two texts
+module _ (f : ℕ → ℕ) (a b : List ℕ) (i : ℕ) (h : i + 8 ≤ length a) (g : i + 8 ≤ length b) where
+  pub same-eight : (t0 t1 t2 t3 t4 t5 t6 t7 : Bool)
+      → t0 ≡ eqb (f (getD a i 0)) (f (getD b i 0))
+      → t1 ≡ eqb (f (getD a (i + 1) 0)) (f (getD b (i + 1) 0))
+      → t2 ≡ eqb (f (getD a (i + 2) 0)) (f (getD b (i + 2) 0))
+      → t3 ≡ eqb (f (getD a (i + 3) 0)) (f (getD b (i + 3) 0))
+      → t4 ≡ eqb (f (getD a (i + 4) 0)) (f (getD b (i + 4) 0))
+      → t5 ≡ eqb (f (getD a (i + 5) 0)) (f (getD b (i + 5) 0))
+      → t6 ≡ eqb (f (getD a (i + 6) 0)) (f (getD b (i + 6) 0))
+      → t7 ≡ eqb (f (getD a (i + 7) 0)) (f (getD b (i + 7) 0))
+      → (((((((t0 && t1) && t2) && t3) && t4) && t5) && t6) && t7) ≡ same (map f (take 8 (drop i a))) (map f (take 8 (drop i b)))
+  unfolding same
+  same-eight t0 t1 t2 t3 t4 t5 t6 t7 e0 e1 e2 e3 e4 e5 e6 e7 =
+      all-eight t0 t1 t2 t3 t4 t5 t6 t7 ∙ rw (take-eight a i h, take-eight b i g, e0, e1, e2, e3, e4, e5, e6, e7)
 
--- i bytes more that are the same
-pub take-longer : (a b : List ℕ) (i k : ℕ) → take i a ≡ take i b → take k (drop i a) ≡ take k (drop i b) → take (i + k) a ≡ take (i + k) b
-take-longer a b i k e f = rw (take-add i k a, take-add i k b, e, f)
+map-plain : (l : List ℕ) → map (inCase false) l ≡ l
+map-plain [] = refl
+map-plain (x ∷ l) = ap (λ (t : List ℕ). x ∷ t) (map-plain l)
+
+-- what is the same as it stands is the same folded
+pub same-eight-plain : (c : Bool) (a b : List ℕ) (i : ℕ) → sameEight false a b i ≡ true → true ≡ sameEight c a b i
+unfolding sameEight
+same-eight-plain c a b i e =
+    let p : take 8 (drop i a) ≡ take 8 (drop i b) = sym (map-plain (take 8 (drop i a))) ∙ same-eq _ _ e ∙ map-plain (take 8 (drop i b)) in
+    rw p (sym (same-refl (map (inCase c) (take 8 (drop i b)))))
+
+pub same-eight-eq : (c : Bool) (a b : List ℕ) (i : ℕ) → sameEight c a b i ≡ true → map (inCase c) (take 8 (drop i a)) ≡ map (inCase c) (take 8 (drop i b))
+unfolding sameEight
+same-eight-eq c a b i e = same-eq _ _ e
+
+-- k bytes more that are the same
+pub take-longer : (f : ℕ → ℕ) (a b : List ℕ) (i k : ℕ) → map f (take i a) ≡ map f (take i b) → map f (take k (drop i a)) ≡ map f (take k (drop i b))
+    → map f (take (i + k) a) ≡ map f (take (i + k) b)
+take-longer f a b i k e g = rw (take-add i k a, take-add i k b, map-append f (take i a) (take k (drop i a)), map-append f (take i b) (take k (drop i b)), e, g)
 
 head-same : (x y : ℕ) (a b : List ℕ) → _≡_ {A = List ℕ} (x ∷ a) (y ∷ b) → x ≡ y
 head-same x y a b e = ap (λ (l : List ℕ). getD l 0 0) e
@@ -55,18 +83,18 @@ head-same x y a b e = ap (λ (l : List ℕ). getD l 0 0) e
 tail-same : (x y : ℕ) (a b : List ℕ) → _≡_ {A = List ℕ} (x ∷ a) (y ∷ b) → a ≡ b
 tail-same x y a b e = ap (λ (l : List ℕ). drop 1 l) e
 
-pub equivalent-skip : (i : ℕ) (a b : List ℕ) → i ≤ length a → i ≤ length b → take i a ≡ take i b → equivalent a b ≡ equivalent (drop i a) (drop i b)
+pub equivalent-skip : (i : ℕ) (a b : List ℕ) → i ≤ length a → i ≤ length b → fold (take i a) ≡ fold (take i b) → equivalent a b ≡ equivalent (drop i a) (drop i b)
 unfolding equivalent same
 equivalent-skip zero a b h g e = refl
 equivalent-skip (suc i) [] b h g e = absurd (omega arith)
 equivalent-skip (suc i) (x ∷ a) [] h g e = absurd (omega arith)
 equivalent-skip (suc i) (x ∷ a) (y ∷ b) h g e =
-    rw (head-same x y (take i a) (take i b) e, eq-eqb (lower y) (lower y) refl) (equivalent-skip i a b (omega arith) (omega arith) (tail-same x y (take i a) (take i b) e))
+    rw (head-same (lower x) (lower y) (fold (take i a)) (fold (take i b)) e, eq-eqb (lower y) (lower y) refl) (equivalent-skip i a b (omega arith) (omega arith) (tail-same (lower x) (lower y) (fold (take i a)) (fold (take i b)) e))
 
-pub order-skip : (f : ℕ → ℕ) (i : ℕ) (a b : List ℕ) → i ≤ length a → i ≤ length b → take i a ≡ take i b → order (map f a) (map f b) ≡ order (map f (drop i a)) (map f (drop i b))
+pub order-skip : (f : ℕ → ℕ) (i : ℕ) (a b : List ℕ) → i ≤ length a → i ≤ length b → map f (take i a) ≡ map f (take i b) → order (map f a) (map f b) ≡ order (map f (drop i a)) (map f (drop i b))
 unfolding order
 order-skip f zero a b h g e = refl
 order-skip f (suc i) [] b h g e = absurd (omega arith)
 order-skip f (suc i) (x ∷ a) [] h g e = absurd (omega arith)
 order-skip f (suc i) (x ∷ a) (y ∷ b) h g e =
-    rw (head-same x y (take i a) (take i b) e, le-ltb (f y) (f y) (omega arith)) (order-skip f i a b (omega arith) (omega arith) (tail-same x y (take i a) (take i b) e))
+    rw (head-same (f x) (f y) (map f (take i a)) (map f (take i b)) e, le-ltb (f y) (f y) (omega arith)) (order-skip f i a b (omega arith) (omega arith) (tail-same (f x) (f y) (map f (take i a)) (map f (take i b)) e))

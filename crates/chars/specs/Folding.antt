@@ -5,7 +5,7 @@ use mathlib.Core.Bool.{Bool, true, false, _&&_, cond}
 use mathlib.Core.List.{List, [], _∷_, _++_, map}
 use Prim.Native.Char.{code}
 use lib.Dec.{leb, ltb, eqb}
-use lib.ListN.{length, drop}
+use lib.ListN.{length, take, drop}
 use Rattle.chars.specs.Bytes.{slash, within}
 use Rattle.chars.specs.Lists.{same, begins}
 use Rattle.chars.specs.declared.folding.Order.{Order}
@@ -30,6 +30,10 @@ equivalent a b = same (fold a) (fold b)
 -- "A is derivable from B if A's folding is B's, then a slash, then more."
 unfoldable pub derivable : List ℕ → List ℕ → Bool
 derivable a b = begins (fold b ++ slash ∷ []) (fold a) && ltb (length b + 1) (length a)
+
+-- eight bytes of two texts, from index i on, are the same, folded or as they stand
+unfoldable pub sameEight : Bool → List ℕ → List ℕ → ℕ → Bool
+sameEight c a b i = same (map (inCase c) (take 8 (drop i a))) (map (inCase c) (take 8 (drop i b)))
 
 -- how two bytes stand to each other: 0 less, 1 equal, 2 greater
 unfoldable pub byteOrder : ℕ → ℕ → ℕ

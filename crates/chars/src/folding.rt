@@ -23,12 +23,9 @@ pub fn to_lower(b: u8) -> u8
     b
 }
 
-fn is_same_letter(x: u8, y: u8) -> bool
+pub fn is_same_letter(x: u8, y: u8) -> bool
     ensures { λ r. ⌜ r ≡ eqb (lower x) (lower y) ⌝ }
 {
-    if x == y {
-        return true;
-    }
     to_lower(x) == to_lower(y)
 }
 
@@ -38,7 +35,7 @@ pub fn is_equivalent(a: &[u8], b: &[u8]) -> bool
     if a.len() != b.len() {
         return false;
     }
-    let mut i = same_start(a, b);
+    let mut i = same_start(true, a, b);
     while i < a.len() {
         if is_same_letter(a[i], b[i]) {
             i += 1;
@@ -90,7 +87,7 @@ fn byte_order(folded: bool, p: u8, q: u8) -> u8
 fn compare_by(folded: bool, a: &[u8], b: &[u8]) -> Order
     ensures { λ r. ⌜ r ≡ order (map (inCase folded) (now (a .entry))) (map (inCase folded) (now (b .entry))) ⌝ }
 {
-    let mut i = same_start(a, b);
+    let mut i = same_start(folded, a, b);
     while i < a.len() {
         if b.len() <= i {
             return Order::Greater;

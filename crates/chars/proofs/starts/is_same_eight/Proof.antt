@@ -1,3 +1,6 @@
+use mathlib.Core.Path.{refl}
+use mathlib.Core.Bool.{false}
+use Rattle.chars.specs.Folding.{inCase, sameEight}
 use Rattle.chars.proofs.SameStarts.{same-eight}
 use native.Mathlib.Omega.{arith}
 use Rattle.chars.proofs.starts.is_same_eight.Statement.{statement}
@@ -94,7 +97,8 @@ shared-slice-read-result-16 : tie.Need-shared-slice-read-result-16
 shared-slice-read-result-16 c = omega arith
 
 returns : tie.Need-returns
-returns c = same-eight (c .before .before .before .before .before .before .before .before .before .before .before .before .before .before .before .before .args .a .now) (c .before .before .before .before .before .before .before .before .before .before .before .before .before .before .before .before .args .b .now) (c .before .before .before .before .before .before .before .before .before .before .before .before .before .before .before .before .args .i) (omega arith) (omega arith)
+unfolding sameEight
+returns c = same-eight (inCase false) (c .before .before .before .before .before .before .before .before .before .before .before .before .before .before .before .before .args .a .now) (c .before .before .before .before .before .before .before .before .before .before .before .before .before .before .before .before .args .b .now) (c .before .before .before .before .before .before .before .before .before .before .before .before .before .before .before .before .args .i) (omega arith) (omega arith) _ _ _ _ _ _ _ _ refl refl refl refl refl refl refl refl
 
 pub is-same-eight-spec : {M : Type 1} → statement M
 is-same-eight-spec =

@@ -3,16 +3,17 @@ use Prim.Native.Nat.{_-_, _≤_}
 use native.Mathlib.Omega.{arith}
 use lib.ListN.{length, take}
 use borrow.Author.Needs.{needs}
-use Rattle.chars.proofs.Equivalence.{same-eq}
-use Rattle.chars.proofs.SameStarts.{take-longer}
+use mathlib.Core.List.{map}
+use Rattle.chars.specs.Folding.{inCase}
+use Rattle.chars.proofs.SameStarts.{same-eight-eq, take-longer}
 use Rattle.chars.proofs.starts.same_start.Statement.{statement}
 use Rattle.chars.proofs.starts.same_start.Tie as tie
 
 abbrev Inv-loop : tie.InvT-loop
-Inv-loop a b n i₀ i = (i ≤ n) × (n ≤ length a) × (n ≤ length b) × (take i a ≡ take i b)
+Inv-loop folded a b n i₀ i = (i ≤ n) × (n ≤ length a) × (n ≤ length b) × (map (inCase folded) (take i a) ≡ map (inCase folded) (take i b))
 
 abbrev μ-loop : tie.MeasureT-loop
-μ-loop a b n i₀ i = n - i
+μ-loop folded a b n i₀ i = n - i
 
 smaller-requires : tie.Need-smaller-requires Inv-loop μ-loop
 smaller-requires c κs = search needs
@@ -23,8 +24,8 @@ loop-holds c = (omega arith, c .smaller .ensures .1, c .smaller .ensures .2, ref
 sub-loop : tie.Need-sub-loop Inv-loop μ-loop
 sub-loop c = omega arith
 
-is-same-eight-requires : tie.Need-is-same-eight-requires Inv-loop μ-loop
-is-same-eight-requires c κs = (omega arith, omega arith)
+agree-requires : tie.Need-agree-requires Inv-loop μ-loop
+agree-requires c κs = (omega arith, omega arith)
 
 add-i : tie.Need-add-i Inv-loop μ-loop
 add-i c = omega arith
@@ -33,7 +34,7 @@ loop-less : tie.Need-loop-less Inv-loop μ-loop
 loop-less c = omega arith
 
 loop-again : tie.Need-loop-again Inv-loop μ-loop
-loop-again c = (omega arith, omega arith, omega arith, take-longer (c .before .before .before .before .before .before .before .args .a .now) (c .before .before .before .before .before .before .before .args .b .now) (c .before .before .before .loop .i) 8 (c .before .before .before .loop .inv .3) (same-eq _ _ (sym (c .before .is-same-eight .ensures) ∙ c .if1 .taken)))
+loop-again c = (omega arith, omega arith, omega arith, take-longer (inCase (c .before .before .before .before .before .before .before .args .folded)) (c .before .before .before .before .before .before .before .args .a .now) (c .before .before .before .before .before .before .before .args .b .now) (c .before .before .before .loop .i) 8 (c .before .before .before .loop .inv .3) (same-eight-eq (c .before .before .before .before .before .before .before .args .folded) (c .before .before .before .before .before .before .before .args .a .now) (c .before .before .before .before .before .before .before .args .b .now) (c .before .before .before .loop .i) (sym (c .before .agree .ensures) ∙ c .if1 .taken)))
 
 returns : tie.Need-returns Inv-loop μ-loop
 returns c = (omega arith, omega arith, c .before .before .before .loop .inv .3)
@@ -50,7 +51,7 @@ same-start-spec =
     smaller-requires
     loop-holds
     sub-loop
-    is-same-eight-requires
+    agree-requires
     add-i
     loop-less
     loop-again
