@@ -64,3 +64,11 @@ scan-all b n c i r least s h q = record {
       let g = s .none j (omega arith) v in
       ⊎-elim (λ z. absurd (omega arith)) (λ z. (omega arith, omega arith)) (s .best);
 }
+
+-- slot i begins at c itself
+pub scan-hit : (b : List ℕ) (n c i o : ℕ) → i < n → o ≡ offOf (slotOf b i) → o ≡ c → Lowest b n c i
+scan-hit b n c i o h e g = record {
+  within = omega arith;
+  above = λ w. omega arith;
+  least = λ j w v. (h, omega arith);
+}

@@ -57,7 +57,7 @@ pub fn size(pkg: &[u8], i: usize) -> usize
     number(pkg, i, 4) + number(pkg, i, 8) + number(pkg, i, 12) + number(pkg, i, 16)
 }
 
-// The first of the n rows whose bytes begin lowest in the heap, at or above c; n where none does.
+// One of the n rows whose bytes begin lowest in the heap, at or above c; n where none does.
 pub fn lowest(pkg: &[u8], n: usize, c: usize) -> usize
     requires { ⌜ (n ≤ slotCount) × (heapStart ≤ length (now pkg)) ⌝ }
     ensures { λ r. ⌜ Lowest (now (pkg .entry)) n c r ⌝ }
@@ -67,6 +67,9 @@ pub fn lowest(pkg: &[u8], n: usize, c: usize) -> usize
     let mut i = 0;
     while i < n {
         let o = offset(pkg, i);
+        if o == c {
+            return i;
+        }
         if (c <= o) & (o < least) {
             r = i;
             least = o;
