@@ -1,5 +1,6 @@
 // The engine for C and Rust: each judgement and each call as one exported function. A slice is passed as its pointer and its length.
 pub mod calls;
+pub mod fields;
 pub mod iris;
 pub mod judgements;
 pub mod replies;

@@ -1,0 +1,73 @@
+// The calls on Defaults, Overrides, media types and relationships.
+use crate::replies::Reply;
+use crate::replies::of_did;
+use crate::replies::of_written;
+use relationships::calls::drop_relationship;
+use relationships::calls::put_relationship;
+use types::calls::drop_default;
+use types::calls::drop_override;
+use types::calls::put_default;
+use types::calls::put_override;
+use types::media::media_type;
+ghost use mathlib.Core.List.{[]};
+ghost use Rattle.model.specs.Calls.{Call, Change, Print};
+ghost use Rattle.contract.specs.Ran.{Ran};
+ghost use Rattle.abi.specs.Replies.{ofReply};
+
+#[no_mangle]
+pub extern "C" fn opc_put_default(pkg: &mut [u8], extension: &[u8], media: &[u8]) -> Reply
+    ensures { λ r. ⌜ Ran (Call.Changes (Change.PutDefault (now (extension .entry)) (now (media .entry)))) (now (pkg .entry)) (ofReply r []) (now (pkg .exit)) ⌝ }
+{
+    of_did(put_default(pkg, extension, media))
+}
+
+#[no_mangle]
+pub extern "C" fn opc_drop_default(pkg: &mut [u8], extension: &[u8]) -> Reply
+    ensures { λ r. ⌜ Ran (Call.Changes (Change.DropDefault (now (extension .entry)))) (now (pkg .entry)) (ofReply r []) (now (pkg .exit)) ⌝ }
+{
+    of_did(drop_default(pkg, extension))
+}
+
+#[no_mangle]
+pub extern "C" fn opc_put_override(pkg: &mut [u8], name: &[u8], media: &[u8]) -> Reply
+    ensures { λ r. ⌜ Ran (Call.Changes (Change.PutOverride (now (name .entry)) (now (media .entry)))) (now (pkg .entry)) (ofReply r []) (now (pkg .exit)) ⌝ }
+{
+    of_did(put_override(pkg, name, media))
+}
+
+#[no_mangle]
+pub extern "C" fn opc_drop_override(pkg: &mut [u8], name: &[u8]) -> Reply
+    ensures { λ r. ⌜ Ran (Call.Changes (Change.DropOverride (now (name .entry)))) (now (pkg .entry)) (ofReply r []) (now (pkg .exit)) ⌝ }
+{
+    of_did(drop_override(pkg, name))
+}
+
+// The media type of a part: its Override's, else that of the Default of its extension.
+#[no_mangle]
+pub extern "C" fn opc_media_type(pkg: &[u8], name: &[u8], out: &mut [u8]) -> Reply
+    ensures { λ r. ⌜ Ran (Call.Prints (Print.MediaType (now (name .entry))) (now (out .entry))) (now (pkg .entry)) (ofReply r (now (out .exit))) (now (pkg .entry)) ⌝ }
+{
+    of_written(media_type(pkg, name, out))
+}
+
+// Any number may be given as the mode: 0 is internal, 1 external, others are refused.
+#[no_mangle]
+pub extern "C" fn opc_put_relationship(
+    pkg: &mut [u8],
+    source: &[u8],
+    id: &[u8],
+    kind: &[u8],
+    mode: u64,
+    target: &[u8],
+) -> Reply
+    ensures { λ r. ⌜ Ran (Call.Changes (Change.PutRelationship (now (source .entry)) (now (id .entry)) (now (kind .entry)) mode (now (target .entry)))) (now (pkg .entry)) (ofReply r []) (now (pkg .exit)) ⌝ }
+{
+    of_did(put_relationship(pkg, source, id, kind, mode, target))
+}
+
+#[no_mangle]
+pub extern "C" fn opc_drop_relationship(pkg: &mut [u8], source: &[u8], id: &[u8]) -> Reply
+    ensures { λ r. ⌜ Ran (Call.Changes (Change.DropRelationship (now (source .entry)) (now (id .entry)))) (now (pkg .entry)) (ofReply r []) (now (pkg .exit)) ⌝ }
+{
+    of_did(drop_relationship(pkg, source, id))
+}
