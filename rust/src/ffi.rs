@@ -126,4 +126,61 @@ extern "C" {
         out_length: usize,
     ) -> Reply;
     pub(crate) fn opc_totals(package: *const u8, package_length: usize) -> Reply;
+    pub(crate) fn opc_put_default(
+        package: *mut u8,
+        package_length: usize,
+        extension: *const u8,
+        extension_length: usize,
+        media_type: *const u8,
+        media_type_length: usize,
+    ) -> Reply;
+    pub(crate) fn opc_drop_default(
+        package: *mut u8,
+        package_length: usize,
+        extension: *const u8,
+        extension_length: usize,
+    ) -> Reply;
+    pub(crate) fn opc_put_override(
+        package: *mut u8,
+        package_length: usize,
+        name: *const u8,
+        name_length: usize,
+        media_type: *const u8,
+        media_type_length: usize,
+    ) -> Reply;
+    pub(crate) fn opc_drop_override(
+        package: *mut u8,
+        package_length: usize,
+        name: *const u8,
+        name_length: usize,
+    ) -> Reply;
+    pub(crate) fn opc_media_type(
+        package: *const u8,
+        package_length: usize,
+        name: *const u8,
+        name_length: usize,
+        out: *mut u8,
+        out_length: usize,
+    ) -> Reply;
+    pub(crate) fn opc_put_relationship(
+        package: *mut u8,
+        package_length: usize,
+        source: *const u8,
+        source_length: usize,
+        id: *const u8,
+        id_length: usize,
+        kind: *const u8,
+        kind_length: usize,
+        mode: u64,
+        target: *const u8,
+        target_length: usize,
+    ) -> Reply;
+    pub(crate) fn opc_drop_relationship(
+        package: *mut u8,
+        package_length: usize,
+        source: *const u8,
+        source_length: usize,
+        id: *const u8,
+        id_length: usize,
+    ) -> Reply;
 }

@@ -1,9 +1,14 @@
-//! A package in one lent buffer: items, the parts that they make, totals.
+//! A package in one lent buffer: items, the parts that they make, their media
+//! types, relationships, totals.
 //!
 //! An *item* is a name and its bytes. A whole item is a part by itself; the
 //! pieces `/[0].piece`, `/[1].piece` .. `/[n].last.piece` of a name make one
 //! part once all are there, in whatever order they came. Names are kept as
 //! given and looked up without regard to the case of ASCII letters.
+//!
+//! A part's media type is that of its *Override*, by name, else that of the
+//! *Default* of its extension. A *relationship* leads from a source, a part or
+//! the package itself (`/`), to a target.
 //!
 //! The package lies in the caller's bytes and nowhere else: they may be
 //! stored, mapped or sent, and opened again with [`Package::open`]. The
@@ -37,6 +42,15 @@ pub const CAPACITY_MAX: u64 = 1_000_000;
 /// How many items a package holds at most.
 pub const ITEMS_MAX: usize = 256;
 
+/// How many Defaults a package holds at most.
+pub const DEFAULTS_MAX: usize = 64;
+
+/// How many Overrides a package holds at most.
+pub const OVERRIDES_MAX: usize = 64;
+
+/// How many relationships a package holds at most.
+pub const RELATIONSHIPS_MAX: usize = 256;
+
 /// A package in a lent buffer.
 #[derive(Debug)]
 pub struct Package<'a> {
@@ -52,6 +66,25 @@ pub struct Totals {
     pub parts: usize,
     /// The bytes that all fields of all entries have together.
     pub charge: usize,
+}
+
+/// Where the target of a relationship lies.
+#[derive(Clone, Copy, Debug, PartialEq, Eq, Hash)]
+pub enum Mode {
+    /// The target leads to a part name of this package, from its source.
+    Internal,
+    /// The target is an IRI that leads out of the package.
+    External,
+}
+
+impl Mode {
+    /// The number of the mode: 0 internal, 1 external.
+    pub fn number(self) -> u64 {
+        match self {
+            Mode::Internal => 0,
+            Mode::External => 1,
+        }
+    }
 }
 
 impl<'a> Package<'a> {
@@ -303,6 +336,273 @@ impl<'a> Package<'a> {
             parts,
             charge,
         })
+    }
+
+    /// Holds a Default: the media type of parts whose names have that
+    /// extension and no Override.
+    ///
+    /// # Errors
+    ///
+    /// [`Refusal::NotAPackage`]; [`Refusal::BadType`] for either field;
+    /// [`Refusal::Taken`] if an equivalent extension has one;
+    /// [`Refusal::Full`].
+    ///
+    /// ```
+    /// use zombirels::package::{Package, OVERHEAD};
+    /// use zombirels::Refusal;
+    /// let mut buffer = vec![0; 100 + OVERHEAD];
+    /// let mut slide = Package::start(&mut buffer, 100)?;
+    /// slide.put_default(b"tiff", b"image/tiff")?;
+    /// assert_eq!(slide.put_default(b"TIFF", b"image/x"), Err(Refusal::Taken));
+    /// assert_eq!(slide.put_default(b"xml", b"xml"), Err(Refusal::BadType));
+    /// assert_eq!(slide.totals()?.charge, 14);
+    /// # Ok::<(), Refusal>(())
+    /// ```
+    pub fn put_default(&mut self, extension: &[u8], media_type: &[u8]) -> Result<(), Refusal> {
+        // SAFETY: each pointer and its length come from one slice; the
+        // package's is lent for writing.
+        let reply = unsafe {
+            ffi::opc_put_default(
+                self.buffer.as_mut_ptr(),
+                self.buffer.len(),
+                extension.as_ptr(),
+                extension.len(),
+                media_type.as_ptr(),
+                media_type.len(),
+            )
+        };
+        done(reply)
+    }
+
+    /// Drops the Default of an equivalent extension. Its charge is free again.
+    ///
+    /// # Errors
+    ///
+    /// [`Refusal::NotAPackage`]; [`Refusal::BadType`]; [`Refusal::NotHeld`].
+    ///
+    /// ```
+    /// use zombirels::package::{Package, OVERHEAD};
+    /// use zombirels::Refusal;
+    /// let mut buffer = vec![0; 100 + OVERHEAD];
+    /// let mut slide = Package::start(&mut buffer, 100)?;
+    /// slide.put_default(b"tiff", b"image/tiff")?;
+    /// assert_eq!(slide.drop_default(b"Tiff"), Ok(()));
+    /// assert_eq!(slide.drop_default(b"tiff"), Err(Refusal::NotHeld));
+    /// # Ok::<(), Refusal>(())
+    /// ```
+    pub fn drop_default(&mut self, extension: &[u8]) -> Result<(), Refusal> {
+        // SAFETY: each pointer and its length come from one slice; the
+        // package's is lent for writing.
+        let reply = unsafe {
+            ffi::opc_drop_default(
+                self.buffer.as_mut_ptr(),
+                self.buffer.len(),
+                extension.as_ptr(),
+                extension.len(),
+            )
+        };
+        done(reply)
+    }
+
+    /// Holds an Override: the media type of the part with that name. The part
+    /// need not be held, and the name may be reserved.
+    ///
+    /// # Errors
+    ///
+    /// [`Refusal::NotAPackage`]; [`Refusal::NotAPartName`];
+    /// [`Refusal::BadType`]; [`Refusal::Taken`] if an equivalent name has one;
+    /// [`Refusal::Full`].
+    ///
+    /// ```
+    /// use zombirels::package::{Package, OVERHEAD};
+    /// use zombirels::Refusal;
+    /// let mut buffer = vec![0; 100 + OVERHEAD];
+    /// let mut slide = Package::start(&mut buffer, 100)?;
+    /// slide.put_override(b"/t3.tiff", b"image/x-tile")?;
+    /// let again = slide.put_override(b"/T3.tiff", b"image/tiff");
+    /// assert_eq!(again, Err(Refusal::Taken));
+    /// # Ok::<(), Refusal>(())
+    /// ```
+    pub fn put_override(&mut self, name: &[u8], media_type: &[u8]) -> Result<(), Refusal> {
+        // SAFETY: each pointer and its length come from one slice; the
+        // package's is lent for writing.
+        let reply = unsafe {
+            ffi::opc_put_override(
+                self.buffer.as_mut_ptr(),
+                self.buffer.len(),
+                name.as_ptr(),
+                name.len(),
+                media_type.as_ptr(),
+                media_type.len(),
+            )
+        };
+        done(reply)
+    }
+
+    /// Drops the Override of an equivalent name. Its charge is free again.
+    ///
+    /// # Errors
+    ///
+    /// [`Refusal::NotAPackage`]; [`Refusal::NotAPartName`];
+    /// [`Refusal::NotHeld`].
+    ///
+    /// ```
+    /// use zombirels::package::{Package, OVERHEAD};
+    /// use zombirels::Refusal;
+    /// let mut buffer = vec![0; 100 + OVERHEAD];
+    /// let mut slide = Package::start(&mut buffer, 100)?;
+    /// slide.put_override(b"/t3", b"image/tiff")?;
+    /// assert_eq!(slide.drop_override(b"/T3"), Ok(()));
+    /// assert_eq!(slide.drop_override(b"/t3"), Err(Refusal::NotHeld));
+    /// # Ok::<(), Refusal>(())
+    /// ```
+    pub fn drop_override(&mut self, name: &[u8]) -> Result<(), Refusal> {
+        // SAFETY: each pointer and its length come from one slice; the
+        // package's is lent for writing.
+        let reply = unsafe {
+            ffi::opc_drop_override(
+                self.buffer.as_mut_ptr(),
+                self.buffer.len(),
+                name.as_ptr(),
+                name.len(),
+            )
+        };
+        done(reply)
+    }
+
+    /// Copies the media type of a part, its Override's or else that of the
+    /// Default of its extension, and answers its length. 127 bytes always
+    /// suffice.
+    ///
+    /// # Errors
+    ///
+    /// [`Refusal::NotAPackage`]; [`Refusal::NotAPartName`];
+    /// [`Refusal::NotHeld`] if no items make that part, or not yet;
+    /// [`Refusal::NoMediaType`]; [`Refusal::OutputTooShort`].
+    ///
+    /// ```
+    /// use zombirels::package::{Package, OVERHEAD};
+    /// use zombirels::Refusal;
+    /// let mut buffer = vec![0; 100 + OVERHEAD];
+    /// let mut slide = Package::start(&mut buffer, 100)?;
+    /// slide.put_item(b"/t3.tiff", b"tile")?;
+    /// let mut out = [0; 127];
+    /// let none = slide.media_type(b"/t3.tiff", &mut out);
+    /// assert_eq!(none, Err(Refusal::NoMediaType));
+    /// slide.put_default(b"TIFF", b"image/tiff")?;
+    /// let length = slide.media_type(b"/t3.tiff", &mut out)?;
+    /// assert_eq!(&out[..length], b"image/tiff");
+    /// slide.put_override(b"/T3.tiff", b"image/x-tile")?;
+    /// let length = slide.media_type(b"/t3.tiff", &mut out)?;
+    /// assert_eq!(&out[..length], b"image/x-tile");
+    /// # Ok::<(), Refusal>(())
+    /// ```
+    pub fn media_type(&self, name: &[u8], out: &mut [u8]) -> Result<usize, Refusal> {
+        // SAFETY: each pointer and its length come from one slice; the
+        // output's is lent for writing.
+        let reply = unsafe {
+            ffi::opc_media_type(
+                self.buffer.as_ptr(),
+                self.buffer.len(),
+                name.as_ptr(),
+                name.len(),
+                out.as_mut_ptr(),
+                out.len(),
+            )
+        };
+        reply.values().map(|[length]| length)
+    }
+
+    /// Holds a relationship: from `source`, which is a part name or `/` for
+    /// the package, to `target`; `kind` is its type, an IRI with a scheme. An
+    /// internal target is resolved against the source, and must give a part
+    /// name; that part need not be held.
+    ///
+    /// # Errors
+    ///
+    /// [`Refusal::NotAPackage`]; [`Refusal::NotAPartName`] or
+    /// [`Refusal::Reserved`] for the source;
+    /// [`Refusal::BadRelationshipField`] for the id or the type;
+    /// [`Refusal::BadTarget`] for the target, or [`Refusal::Reserved`] if it
+    /// leads to a reserved name; [`Refusal::Taken`] if an equivalent source
+    /// has that very id; [`Refusal::Full`].
+    ///
+    /// ```
+    /// use zombirels::package::{Mode, Package, OVERHEAD};
+    /// use zombirels::Refusal;
+    /// let mut buffer = vec![0; 200 + OVERHEAD];
+    /// let mut slide = Package::start(&mut buffer, 200)?;
+    /// let (source, kind) = (b"/left/t3.tiff", b"http://example.com/mask");
+    /// slide.put_relationship(source, b"m1", kind, Mode::Internal, b"../mask")?;
+    /// slide.put_relationship(source, b"M1", kind, Mode::External, b"#t3")?;
+    /// let reserved = slide.put_relationship(b"/", b"r", kind, Mode::Internal, b"_rels/.rels");
+    /// assert_eq!(reserved, Err(Refusal::Reserved));
+    /// let outside = slide.put_relationship(b"/", b"r", kind, Mode::Internal, b"a#t3");
+    /// assert_eq!(outside, Err(Refusal::BadTarget));
+    /// # Ok::<(), Refusal>(())
+    /// ```
+    pub fn put_relationship(
+        &mut self,
+        source: &[u8],
+        id: &[u8],
+        kind: &[u8],
+        mode: Mode,
+        target: &[u8],
+    ) -> Result<(), Refusal> {
+        // SAFETY: each pointer and its length come from one slice; the
+        // package's is lent for writing.
+        let reply = unsafe {
+            ffi::opc_put_relationship(
+                self.buffer.as_mut_ptr(),
+                self.buffer.len(),
+                source.as_ptr(),
+                source.len(),
+                id.as_ptr(),
+                id.len(),
+                kind.as_ptr(),
+                kind.len(),
+                mode.number(),
+                target.as_ptr(),
+                target.len(),
+            )
+        };
+        done(reply)
+    }
+
+    /// Drops the relationship of an equivalent source with that very id. Its
+    /// charge is free again.
+    ///
+    /// # Errors
+    ///
+    /// [`Refusal::NotAPackage`]; [`Refusal::NotAPartName`] or
+    /// [`Refusal::Reserved`] for the source;
+    /// [`Refusal::BadRelationshipField`] for the id; [`Refusal::NotHeld`].
+    ///
+    /// ```
+    /// use zombirels::package::{Mode, Package, OVERHEAD};
+    /// use zombirels::Refusal;
+    /// let mut buffer = vec![0; 100 + OVERHEAD];
+    /// let mut slide = Package::start(&mut buffer, 100)?;
+    /// slide.put_relationship(b"/t3", b"m1", b"a:mask", Mode::Internal, b"m")?;
+    /// let other = slide.drop_relationship(b"/t3", b"M1");
+    /// assert_eq!(other, Err(Refusal::NotHeld));
+    /// assert_eq!(slide.drop_relationship(b"/T3", b"m1"), Ok(()));
+    /// # Ok::<(), Refusal>(())
+    /// ```
+    pub fn drop_relationship(&mut self, source: &[u8], id: &[u8]) -> Result<(), Refusal> {
+        // SAFETY: each pointer and its length come from one slice; the
+        // package's is lent for writing.
+        let reply = unsafe {
+            ffi::opc_drop_relationship(
+                self.buffer.as_mut_ptr(),
+                self.buffer.len(),
+                source.as_ptr(),
+                source.len(),
+                id.as_ptr(),
+                id.len(),
+            )
+        };
+        done(reply)
     }
 }
 
