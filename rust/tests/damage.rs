@@ -12,7 +12,7 @@ use std::sync::atomic::{AtomicUsize, Ordering};
 use std::sync::Once;
 use std::time::Duration;
 use support::{show, Random};
-use zombirels::package::{Package, CAPACITY_MAX, OVERHEAD};
+use zombirels::package::{Mode, Package, CAPACITY_MAX, OVERHEAD};
 use zombirels::Refusal;
 
 /// How many calls a test makes if ZOMBIRELS_CALLS is not set.
@@ -62,6 +62,48 @@ const NAMES: &[&[u8]] = &[
     b"/_rels/.rels", b"/a/[x]", b"a", b"", b"/",
 ];
 
+const EXTENSIONS: &[&[u8]] = &[b"tiff", b"TIFF", b"xml", b"e", b"a.b", b""];
+const MEDIA_TYPES: &[&[u8]] = &[b"a/b", b"image/tiff", b"application/octet-stream", b"a"];
+const IDS: &[&[u8]] = &[b"r1", b"R1", b"_", b"1"];
+const KINDS: &[&[u8]] = &[b"a:", b"http://example.com/mask", b"a"];
+const TARGETS: &[&[u8]] = &[b"b", b"../c.tiff", b"/a", b"_rels/.rels", b"a:b#c", b""];
+
+/// One of the texts in an allocation of its own length.
+fn text(random: &mut Random, texts: &[&[u8]]) -> Box<[u8]> {
+    random.pick(texts).into()
+}
+
+/// A source: the package, or a name.
+fn source(random: &mut Random) -> Box<[u8]> {
+    match random.below(3) {
+        0 => b"/"[..].into(),
+        _ => name(random),
+    }
+}
+
+/// Puts a Default, an Override or a relationship.
+fn put_field(random: &mut Random, package: &mut Package) -> Result<(), Refusal> {
+    let (name, media_type) = (name(random), text(random, MEDIA_TYPES));
+    match random.below(3) {
+        0 => package.put_default(&text(random, EXTENSIONS), &media_type),
+        1 => package.put_override(&name, &media_type),
+        _ => {
+            let (source, id) = (source(random), text(random, IDS));
+            let (kind, target) = (text(random, KINDS), text(random, TARGETS));
+            let mode = random.pick(&[Mode::Internal, Mode::External]);
+            package.put_relationship(&source, &id, &kind, mode, &target)
+        }
+    }
+}
+
+fn drop_field(random: &mut Random, package: &mut Package) -> Result<(), Refusal> {
+    match random.below(3) {
+        0 => package.drop_default(&text(random, EXTENSIONS)),
+        1 => package.drop_override(&name(random)),
+        _ => package.drop_relationship(&source(random), &text(random, IDS)),
+    }
+}
+
 /// A name in an allocation of its own length.
 fn name(random: &mut Random) -> Box<[u8]> {
     let name = random.pick(NAMES);
@@ -82,7 +124,7 @@ fn call(random: &mut Random, seen: &mut Seen, buffer: &mut [u8]) -> u8 {
     let out_before = out.clone();
     let mut package = Package::open(buffer);
     let (name, other) = (name(random), name(random));
-    let answer: Result<(), Refusal> = match random.below(16) {
+    let answer: Result<(), Refusal> = match random.below(24) {
         0 => {
             let size = random.below(400);
             package.put_item(&name, &random.bytes(size).into_boxed_slice())
@@ -106,6 +148,13 @@ fn call(random: &mut Random, seen: &mut Seen, buffer: &mut [u8]) -> u8 {
             check_output(&answer, &out, &out_before);
             answer.map(drop)
         }
+        14..=17 => put_field(random, &mut package),
+        18..=19 => drop_field(random, &mut package),
+        20..=21 => {
+            let answer = package.media_type(&name, &mut out);
+            check_output(&answer, &out, &out_before);
+            answer.map(drop)
+        }
         _ => package.totals().map(drop),
     };
     ENDED.fetch_add(1, Ordering::Relaxed);
@@ -126,7 +175,7 @@ fn check_output(answer: &Result<usize, Refusal>, out: &[u8], before: &[u8]) {
     }
 }
 
-/// A package as calls make it, with gaps from dropped items, in a buffer of
+/// A package as calls make it, with gaps from dropped entries, in a buffer of
 /// just the right length or a longer one.
 fn real_package(random: &mut Random) -> Box<[u8]> {
     let capacity = random.below(4000);
@@ -135,18 +184,20 @@ fn real_package(random: &mut Random) -> Box<[u8]> {
     let mut package = Package::start(&mut buffer, capacity as u64).expect("room");
     for _ in 0..random.below(60) {
         let (name, size) = (name(random), random.below(200));
-        if random.once_in(4) {
-            package.drop_item(&name).ok();
-        } else {
-            package.put_item(&name, &random.bytes(size)).ok();
-        }
+        match random.below(8) {
+            0..=1 => package.drop_item(&name).ok(),
+            2..=3 => put_field(random, &mut package).ok(),
+            4 if random.once_in(2) => drop_field(random, &mut package).ok(),
+            _ => package.put_item(&name, &random.bytes(size)).ok(),
+        };
     }
     buffer
 }
 
-/// How many rows a real package has.
-fn rows(buffer: &mut [u8]) -> usize {
-    Package::open(buffer).totals().expect("a package").items
+/// How many rows a real package has: the header's second number.
+fn rows(buffer: &[u8]) -> usize {
+    let bytes = buffer[MARK + 4..MARK + 8].try_into().expect("four bytes");
+    u32::from_le_bytes(bytes) as usize
 }
 
 /// A place in the header, in the table of rows, or anywhere.
@@ -186,7 +237,7 @@ fn run(test: &str, damage: impl Fn(&mut Random) -> Box<[u8]>) -> Seen {
 fn flipped_bits() {
     let seen = run("flipped bits", |random| {
         let mut buffer = real_package(random);
-        let rows = rows(&mut buffer);
+        let rows = rows(&buffer);
         for _ in 0..1 + random.below(3) {
             buffer[place(random, rows, OVERHEAD)] ^= 1 << random.below(8);
         }
@@ -199,7 +250,7 @@ fn flipped_bits() {
 fn changed_bytes() {
     let seen = run("changed bytes", |random| {
         let mut buffer = real_package(random);
-        let (rows, length) = (rows(&mut buffer), buffer.len());
+        let (rows, length) = (rows(&buffer), buffer.len());
         for _ in 0..1 + random.below(8) {
             let byte = random.byte();
             buffer[place(random, rows, length)] = random.pick(&[0, 1, 255, byte]);
@@ -215,7 +266,7 @@ fn changed_bytes() {
 fn changed_numbers() {
     let seen = run("changed numbers", |random| {
         let mut buffer = real_package(random);
-        let (rows, length) = (rows(&mut buffer), buffer.len() as u32);
+        let (rows, length) = (rows(&buffer), buffer.len() as u32);
         for _ in 0..1 + random.below(6) {
             let at = match random.below(3) {
                 0 => MARK + 4 * random.below(4),
@@ -296,11 +347,20 @@ fn is_no_package(buffer: &mut [u8]) {
     assert_eq!(package.read_part(b"", u64::MAX, &mut out), Err(one));
     assert_eq!(package.part_at(0, &mut out), Err(one));
     assert_eq!(package.totals(), Err(one));
+    assert_eq!(package.put_default(b"e", b"a/b"), Err(one));
+    assert_eq!(package.drop_default(b"no.extension"), Err(one));
+    assert_eq!(package.put_override(b"/a", b"a/b"), Err(one));
+    assert_eq!(package.drop_override(b"no name"), Err(one));
+    assert_eq!(package.media_type(b"/a", &mut out), Err(one));
+    let mode = Mode::Internal;
+    let put = package.put_relationship(b"/", b"r", b"a:", mode, b"b");
+    assert_eq!(put, Err(one));
+    assert_eq!(package.drop_relationship(b"/", b"r"), Err(one));
     assert_eq!(out, [7; 40]);
     let capacity = CAPACITY_MAX + 1;
     assert_eq!(package.restart(capacity), Err(Refusal::BadStart));
     assert!(*buffer == before);
-    ENDED.fetch_add(11, Ordering::Relaxed);
+    ENDED.fetch_add(17, Ordering::Relaxed);
 }
 
 /// A buffer below 32,768 bytes is no package, whatever it holds; neither is
@@ -334,7 +394,7 @@ fn short_buffers_and_zeros() {
     }
     println!(
         "short buffers and zeros: {count} buffers, {} calls",
-        count * 11
+        count * 17
     );
     assert!(count > 600);
 }

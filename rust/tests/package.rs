@@ -1,7 +1,7 @@
 //! Random lists of calls on one package: the archive beside the ledger of the
 //! reference. Compared are every answer, every output byte, every viewed byte.
 //!
-//! There are five kinds of lists, 20,000 lists in all. ZOMBIRELS_LISTS sets how
+//! There are seven kinds of lists, 21,000 lists in all. ZOMBIRELS_LISTS sets how
 //! many each kind gets.
 
 mod support;
@@ -9,10 +9,13 @@ mod support;
 use reference::ledger::Ledger;
 use std::collections::{BTreeMap, BTreeSet};
 use support::{numbers, show, Random};
-use zombirels::package::{Package, CAPACITY_MAX, ITEMS_MAX, OVERHEAD};
+use zombirels::package::{
+    Mode, Package, CAPACITY_MAX, DEFAULTS_MAX, ITEMS_MAX, OVERHEAD, OVERRIDES_MAX,
+    RELATIONSHIPS_MAX,
+};
 
 /// How many lists each kind gets if ZOMBIRELS_LISTS is not set.
-const LISTS: usize = 4000;
+const LISTS: usize = 3000;
 
 /// What stands on both sides of lent bytes and must stay.
 const GUARD: usize = 32;
@@ -31,6 +34,13 @@ enum Kind {
     Read,
     PartAt,
     Totals,
+    PutDefault,
+    DropDefault,
+    PutOverride,
+    DropOverride,
+    MediaType,
+    PutRelationship,
+    DropRelationship,
 }
 
 /// A call with its inputs; an output's length is one.
@@ -44,6 +54,22 @@ enum Call {
     Read(Vec<u8>, u64, usize),
     PartAt(u64, usize),
     Totals,
+    PutDefault(Vec<u8>, Vec<u8>),
+    DropDefault(Vec<u8>),
+    PutOverride(Vec<u8>, Vec<u8>),
+    DropOverride(Vec<u8>),
+    MediaType(Vec<u8>, usize),
+    PutRelationship(Relationship),
+    DropRelationship(Vec<u8>, Vec<u8>),
+}
+
+#[derive(Debug)]
+struct Relationship {
+    source: Vec<u8>,
+    id: Vec<u8>,
+    kind: Vec<u8>,
+    mode: u64,
+    target: Vec<u8>,
 }
 
 impl Call {
@@ -57,6 +83,13 @@ impl Call {
             Call::Read(..) => Kind::Read,
             Call::PartAt(..) => Kind::PartAt,
             Call::Totals => Kind::Totals,
+            Call::PutDefault(..) => Kind::PutDefault,
+            Call::DropDefault(_) => Kind::DropDefault,
+            Call::PutOverride(..) => Kind::PutOverride,
+            Call::DropOverride(_) => Kind::DropOverride,
+            Call::MediaType(..) => Kind::MediaType,
+            Call::PutRelationship(_) => Kind::PutRelationship,
+            Call::DropRelationship(..) => Kind::DropRelationship,
         }
     }
 
@@ -70,15 +103,99 @@ impl Call {
                 format!("read {} from {offset}, output {length}", show(name))
             }
             Call::Start(_) | Call::PartAt(..) | Call::Totals => format!("{self:?}"),
+            Call::PutDefault(extension, media_type) => {
+                format!("put default {} {}", show(extension), show(media_type))
+            }
+            Call::DropDefault(extension) => format!("drop default {}", show(extension)),
+            Call::PutOverride(name, media_type) => {
+                format!("put override {} {}", show(name), show(media_type))
+            }
+            Call::DropOverride(name) => format!("drop override {}", show(name)),
+            Call::MediaType(name, length) => {
+                format!("media type {}, output {length}", show(name))
+            }
+            Call::PutRelationship(r) => format!(
+                "put relationship {} {} {} {} {}",
+                show(&r.source),
+                show(&r.id),
+                show(&r.kind),
+                r.mode,
+                show(&r.target)
+            ),
+            Call::DropRelationship(source, id) => {
+                format!("drop relationship {} {}", show(source), show(id))
+            }
         }
     }
 
     /// The length of the output that the call writes to.
     fn output(&self) -> usize {
         match self {
-            Call::Read(_, _, length) | Call::PartAt(_, length) => *length,
+            Call::Read(_, _, length) | Call::PartAt(_, length) | Call::MediaType(_, length) => {
+                *length
+            }
             _ => 0,
         }
+    }
+
+    /// Whether the call changes the package if it is accepted.
+    fn changes(&self) -> bool {
+        !matches!(
+            self.kind(),
+            Kind::Find | Kind::View | Kind::Read | Kind::PartAt | Kind::Totals | Kind::MediaType
+        )
+    }
+}
+
+/// The archive's answer as its functions return it.
+#[repr(C)]
+struct Reply {
+    number: u64,
+    count: u64,
+    values: [u64; 3],
+}
+
+extern "C" {
+    fn opc_put_relationship(
+        package: *mut u8,
+        package_length: usize,
+        source: *const u8,
+        source_length: usize,
+        id: *const u8,
+        id_length: usize,
+        kind: *const u8,
+        kind_length: usize,
+        mode: u64,
+        target: *const u8,
+        target_length: usize,
+    ) -> Reply;
+}
+
+/// Puts a relationship with any number as its mode; the safe method has two.
+fn put_by_number(package: &mut Package, r: &Relationship) -> Answer {
+    let bytes = std::mem::replace(package, Package::open(&mut [])).into_bytes();
+    // SAFETY: each pointer and its length come from one slice; the package's
+    // is lent for writing.
+    let reply = unsafe {
+        opc_put_relationship(
+            bytes.as_mut_ptr(),
+            bytes.len(),
+            r.source.as_ptr(),
+            r.source.len(),
+            r.id.as_ptr(),
+            r.id.len(),
+            r.kind.as_ptr(),
+            r.kind.len(),
+            r.mode,
+            r.target.as_ptr(),
+            r.target.len(),
+        )
+    };
+    *package = Package::open(bytes);
+    assert_eq!((reply.count, reply.values), (1, [0; 3]));
+    match reply.number {
+        0 => Ok(one(0)),
+        number => Err((number, 0)),
     }
 }
 
@@ -96,6 +213,28 @@ fn by_archive(package: &mut Package, call: &Call, out: &mut [u8]) -> Answer {
         Call::Read(name, offset, _) => package.read_part(name, *offset, out).map(one),
         Call::PartAt(position, _) => package.part_at(*position, out).map(one),
         Call::Totals => package.totals().map(|t| [t.items, t.parts, t.charge]),
+        Call::PutDefault(extension, media_type) => {
+            package.put_default(extension, media_type).map(|()| one(0))
+        }
+        Call::DropDefault(extension) => package.drop_default(extension).map(|()| one(0)),
+        Call::PutOverride(name, media_type) => {
+            package.put_override(name, media_type).map(|()| one(0))
+        }
+        Call::DropOverride(name) => package.drop_override(name).map(|()| one(0)),
+        Call::MediaType(name, _) => package.media_type(name, out).map(one),
+        Call::PutRelationship(r) => {
+            let mode = match r.mode {
+                0 => Mode::Internal,
+                1 => Mode::External,
+                _ => return put_by_number(package, r),
+            };
+            package
+                .put_relationship(&r.source, &r.id, &r.kind, mode, &r.target)
+                .map(|()| one(0))
+        }
+        Call::DropRelationship(source, id) => {
+            package.drop_relationship(source, id).map(|()| one(0))
+        }
     };
     answer.map_err(numbers)
 }
@@ -113,6 +252,19 @@ fn by_reference(ledger: &mut Ledger, length: usize, call: &Call, out: &mut [u8])
             let totals = ledger.totals();
             Ok([totals.items, totals.parts, totals.charge].map(|value| value as usize))
         }
+        Call::PutDefault(extension, media_type) => {
+            ledger.put_default(extension, media_type).map(|()| one(0))
+        }
+        Call::DropDefault(extension) => ledger.drop_default(extension).map(|()| one(0)),
+        Call::PutOverride(name, media_type) => {
+            ledger.put_override(name, media_type).map(|()| one(0))
+        }
+        Call::DropOverride(name) => ledger.drop_override(name).map(|()| one(0)),
+        Call::MediaType(name, _) => ledger.media_type(name, out).map(one),
+        Call::PutRelationship(r) => ledger
+            .put_relationship(&r.source, &r.id, &r.kind, r.mode, &r.target)
+            .map(|()| one(0)),
+        Call::DropRelationship(source, id) => ledger.drop_relationship(source, id).map(|()| one(0)),
     };
     answer.map_err(|refusal| (refusal.number(), refusal.value()))
 }
@@ -130,6 +282,10 @@ enum Style {
     Pieces,
     /// Tiles of some thousand bytes, put and dropped.
     Tiles,
+    /// Few parts, types and relationships with colliding keys.
+    Fields,
+    /// Types or relationships without end, so that their sets get full.
+    FullFields,
 }
 
 #[rustfmt::skip]
@@ -147,6 +303,78 @@ const ODD_NAMES: &[&[u8]] = &[
     b"/x/_RELS/y.Rels", b"/_rels/a.rels/[0].piece", b"/\xC3", b"/a b",
 ];
 
+const RESERVED: &[&[u8]] = &[b"/_rels/.rels", b"/_Rels/a.RELS", b"/x/_RELS/y.Rels"];
+
+#[rustfmt::skip]
+const EXTENSIONS: &[&[u8]] = &[b"b", b"tiff", b"xml", b"rels", b"\xC3\xA9", b"%20", b"x", b"abcdefghijklmnopqrstuvwxyz-12345"];
+
+#[rustfmt::skip]
+const ODD_EXTENSIONS: &[&[u8]] = &[
+    b"", b".", b"a.b", b"%41", b"%2f", b"a/b", b"%2", b"\xC3", b"a b", b"[", b"\xEE\x80\x80", b"abcdefghijklmnopqrstuvwxyz-12345%",
+    b"abcdefghijklmnopqrstuvwxyz-123456",
+];
+
+#[rustfmt::skip]
+const MEDIA_TYPES: &[&[u8]] = &[b"a/b", b"image/tiff", b"Image/TIFF", b"text/xml", b"application/vnd.example.tile+xml", b"!#$/%&'*+-.^_`|~"];
+
+#[rustfmt::skip]
+const ODD_MEDIA_TYPES: &[&[u8]] = &[
+    b"", b"/", b"a", b"a/", b"/b", b"a/b/c", b"a b/c", b"text/xml;q=1", b" a/b", b"a/b ", b"a/\xC3\xA9", b"a/(b)", b"a,b/c",
+];
+
+const IDS: &[&[u8]] = &[b"r1", b"R1", b"_", b"rId9", b"a.b-c_d", b"r"];
+
+#[rustfmt::skip]
+const ODD_IDS: &[&[u8]] = &[b"", b"1a", b"-a", b".a", b"a b", b"a:b", b"\xC3\xA9", b"a/b", b"r1\n", b"%20"];
+
+#[rustfmt::skip]
+const KINDS: &[&[u8]] = &[b"a:", b"http://example.com/mask", b"urn:x:y?z#f", b"A+-.1://h/%41", b"x:\xC3\xA9"];
+
+#[rustfmt::skip]
+const ODD_KINDS: &[&[u8]] = &[b"", b"a", b"/a:b", b":a", b"1a:b", b"a:[", b"a:b#c#d", b"#a:", b"a: b", b"a:%4", b"a:\xC3"];
+
+/// Targets, well-formed or not, in either mode or in one only.
+#[rustfmt::skip]
+const TARGETS: &[&[u8]] = &[
+    b"a", b"T3", b"a/b", b"./a", b"../g", b"../../g", b"../../../g", b"/a/b", b"/", b".", b"..", b"a/", b"./", b"../", b"a//b", b"b.",
+    b"/./a", b"/../a", b"a/../b", b"a/./b", b"../b/../c", b"a:b", b"./a:b", b"//h/p", b"/.//a", b"?q", b"#f", b"a?q", b"a#f", b"a#f#g",
+    b"http://example.com/x?y#z", b"_rels/.rels", b"_RELS/x.Rels", b"../_rels/a.rels", b"/x/_rels/y.rels", b"x.rels", b"%41", b"a%2fb",
+    b"%20", b"\xC3\xA9", b"\xC3", b"", b"a b", b"[0].piece", b"a/[0].piece", b":a", b"1:a", b"...", b"a..",
+];
+
+/// Numbers that are no mode.
+const ODD_MODES: &[u64] = &[
+    2,
+    3,
+    255,
+    256,
+    257,
+    1 << 32,
+    (1 << 32) + 1,
+    1 << 63,
+    u64::MAX,
+];
+
+/// A well-formed text most often, in its own or in another case, or an odd one.
+fn field(random: &mut Random, texts: &[&[u8]], odd: &[&[u8]]) -> Vec<u8> {
+    if random.once_in(12) {
+        return random.pick(odd).to_vec();
+    }
+    let text = random.pick(texts);
+    match random.below(8) {
+        0..=2 => random.flip_case(text),
+        3 if random.once_in(4) => random.damaged(text),
+        _ => text.to_vec(),
+    }
+}
+
+/// `start`, then as many of `byte` as make `length`.
+fn filled(start: &[u8], byte: u8, length: usize) -> Vec<u8> {
+    let mut text = start.to_vec();
+    text.resize(length.max(start.len()), byte);
+    text
+}
+
 /// One list: the names to choose from, the capacity, what is held by now.
 struct List {
     style: Style,
@@ -156,6 +384,12 @@ struct List {
     capacity: u64,
     /// The names of accepted puts, as given.
     held: Vec<Vec<u8>>,
+    /// The keys of accepted Defaults, Overrides and relationships, as given.
+    extensions: Vec<Vec<u8>>,
+    overrides: Vec<Vec<u8>>,
+    relationships: Vec<(Vec<u8>, Vec<u8>)>,
+    /// Whether the list fills the relationships, or else the types.
+    relates: bool,
 }
 
 impl List {
@@ -166,6 +400,8 @@ impl List {
             Style::Tight => 2 + random.below(30),
             Style::Pieces => 1 + random.below(4),
             Style::Tiles => 5 + random.below(60),
+            Style::Fields => 1 + random.below(8),
+            Style::FullFields => 70 + random.below(40),
         };
         let mut list = List {
             style,
@@ -177,8 +413,14 @@ impl List {
                 Style::Tight => random.below(400) as u64,
                 Style::Pieces => 2000 + random.below(6000) as u64,
                 Style::Tiles => 20_000 + random.below(60_000) as u64,
+                Style::Fields => random.below(8000) as u64,
+                Style::FullFields => 40_000,
             },
             held: Vec::new(),
+            extensions: Vec::new(),
+            overrides: Vec::new(),
+            relationships: Vec::new(),
+            relates: random.once_in(2),
         };
         for number in 0..count {
             let prefix = list.new_prefix(random, number);
@@ -188,6 +430,7 @@ impl List {
                 Style::Full => random.once_in(8).then(|| random.below(3)),
                 Style::Pieces => (!random.once_in(8)).then(|| random.below(90)),
                 Style::Tiles => random.once_in(3).then(|| random.below(6)),
+                Style::Fields | Style::FullFields => random.once_in(4).then(|| random.below(3)),
             };
             list.last.push(last);
         }
@@ -196,7 +439,7 @@ impl List {
 
     fn new_prefix(&self, random: &mut Random, number: usize) -> Vec<u8> {
         match self.style {
-            Style::Full | Style::Tiles => {
+            Style::Full | Style::Tiles | Style::FullFields => {
                 format!("/Tiles/L{}/t{number}.tiff", number % 3).into_bytes()
             }
             _ if random.once_in(12) => {
@@ -252,6 +495,9 @@ impl List {
 
     /// A name to ask for: one that is held, most often, or another.
     fn wanted_name(&self, random: &mut Random) -> Vec<u8> {
+        if random.once_in(40) {
+            return random.pick(ODD_NAMES).to_vec();
+        }
         if self.held.is_empty() || random.once_in(3) {
             return self.item_name(random);
         }
@@ -282,7 +528,164 @@ impl List {
         }
     }
 
+    /// How many bytes a field gets: such that the entry just fills the
+    /// `room`, or is one more or less, if that is within `least` and `most`.
+    fn fitting(&self, random: &mut Random, room: usize, least: usize, most: usize) -> usize {
+        let length = (room + random.below(3)).saturating_sub(1);
+        if random.once_in(2) && (least..=most).contains(&length) {
+            length
+        } else {
+            // up to one too long
+            random.pick(&[least, most, most + 1])
+        }
+    }
+
+    fn extension(&self, random: &mut Random) -> Vec<u8> {
+        match self.style {
+            Style::FullFields if !random.once_in(10) => {
+                format!("Ext{}", self.extensions.len() % 100).into_bytes()
+            }
+            _ => field(random, EXTENSIONS, ODD_EXTENSIONS),
+        }
+    }
+
+    fn media_type(&self, random: &mut Random, room: usize) -> Vec<u8> {
+        if random.once_in(10) {
+            return filled(b"a/b", b'x', self.fitting(random, room, 3, 127));
+        }
+        field(random, MEDIA_TYPES, ODD_MEDIA_TYPES)
+    }
+
+    fn override_name(&self, random: &mut Random) -> Vec<u8> {
+        match self.style {
+            Style::FullFields if !random.once_in(10) => {
+                let which = self.overrides.len() % self.prefixes.len();
+                random.flip_case(&self.prefixes[which])
+            }
+            _ => self.part_name(random),
+        }
+    }
+
+    fn source(&self, random: &mut Random) -> Vec<u8> {
+        match random.below(24) {
+            0..=5 => b"/".to_vec(),
+            6 => random.pick(RESERVED).to_vec(),
+            _ => self.part_name(random),
+        }
+    }
+
+    fn id(&self, random: &mut Random) -> Vec<u8> {
+        match self.style {
+            Style::FullFields if !random.once_in(40) => {
+                format!("r{}", self.relationships.len() % 300).into_bytes()
+            }
+            _ if random.once_in(20) => filled(b"_", b'i', 62 + random.below(3)),
+            _ => field(random, IDS, ODD_IDS),
+        }
+    }
+
+    fn relationship(&self, random: &mut Random, room: usize) -> Relationship {
+        let (source, id) = (self.source(random), self.id(random));
+        if self.style == Style::FullFields && !random.once_in(8) {
+            // well-formed but for the source, so that the set gets full
+            return Relationship {
+                source,
+                id,
+                kind: random.pick(KINDS).to_vec(),
+                mode: random.below(2) as u64,
+                target: b"L1/t1.tiff".to_vec(),
+            };
+        }
+        let kind = match random.below(24) {
+            0 => filled(b"a:", b'k', 254 + random.below(3)),
+            _ => field(random, KINDS, ODD_KINDS),
+        };
+        let mode = match random.below(25) {
+            0 => random.pick(ODD_MODES),
+            n => n as u64 % 2,
+        };
+        let target = match random.below(10) {
+            0 => {
+                let used = source.len() + id.len() + kind.len();
+                let length = self.fitting(random, room.saturating_sub(used), 1, 255);
+                filled(b"t", b't', length)
+            }
+            1 => random.joined(TARGETS, 4),
+            2 => {
+                let which = random.below(self.prefixes.len());
+                random.flip_case(&self.prefixes[which])
+            }
+            _ => field(random, TARGETS, TARGETS),
+        };
+        Relationship {
+            source,
+            id,
+            kind,
+            mode,
+            target,
+        }
+    }
+
+    /// A call on types or relationships.
+    fn field_call(&self, random: &mut Random, room: usize) -> Call {
+        let which = match self.style {
+            Style::FullFields if !random.once_in(16) => match self.relates {
+                true => 40,
+                false => random.pick(&[0, 20]),
+            },
+            _ => random.below(100),
+        };
+        match which {
+            0..=14 => {
+                let extension = self.extension(random);
+                let room = room.saturating_sub(extension.len());
+                let media_type = self.media_type(random, room);
+                Call::PutDefault(extension, media_type)
+            }
+            15..=19 if !self.extensions.is_empty() && !random.once_in(4) => {
+                let held = &self.extensions[random.below(self.extensions.len())];
+                Call::DropDefault(random.flip_case(held))
+            }
+            15..=19 => Call::DropDefault(self.extension(random)),
+            20..=34 => {
+                let name = self.override_name(random);
+                let room = room.saturating_sub(name.len());
+                let media_type = self.media_type(random, room);
+                Call::PutOverride(name, media_type)
+            }
+            35..=39 if !self.overrides.is_empty() && !random.once_in(4) => {
+                let held = &self.overrides[random.below(self.overrides.len())];
+                Call::DropOverride(random.flip_case(held))
+            }
+            35..=39 => Call::DropOverride(self.override_name(random)),
+            40..=64 => Call::PutRelationship(self.relationship(random, room)),
+            65..=74 if !self.relationships.is_empty() && !random.once_in(4) => {
+                let (source, id) = &self.relationships[random.below(self.relationships.len())];
+                let id = match random.below(8) {
+                    0 => random.flip_case(id), // ids are compared exactly
+                    _ => id.clone(),
+                };
+                Call::DropRelationship(random.flip_case(source), id)
+            }
+            65..=74 => Call::DropRelationship(self.source(random), self.id(random)),
+            _ => {
+                let length = random_length(random);
+                Call::MediaType(self.part_name(random), random.pick(&[length, 127]))
+            }
+        }
+    }
+
     fn call(&self, random: &mut Random, charge: u64) -> Call {
+        let others = match self.style {
+            Style::Full => 3,
+            Style::Pieces => 8,
+            Style::Crowded | Style::Tight | Style::Tiles => 15,
+            Style::Fields => 70,
+            Style::FullFields => 96,
+        };
+        if random.below(100) < others {
+            return self.field_call(random, (self.capacity - charge) as usize);
+        }
         let puts = match self.style {
             Style::Full => 92,
             Style::Pieces => 60,
@@ -367,8 +770,7 @@ impl Pair<'_> {
             .collect();
         let (mut out, mut expected) = (before.clone(), before.clone());
         let inside = GUARD..GUARD + call.output();
-        let changes = matches!(call.kind(), Kind::Start | Kind::Put | Kind::Drop);
-        let kept = (changes && random.once_in(4)).then(|| self.package.as_bytes().to_vec());
+        let kept = (call.changes() && random.once_in(4)).then(|| self.package.as_bytes().to_vec());
         let answer = by_archive(&mut self.package, call, &mut out[inside.clone()]);
         let right = by_reference(&mut self.ledger, length, call, &mut expected[inside]);
         let alike = match call {
@@ -401,9 +803,10 @@ impl Pair<'_> {
     }
 
     /// Asks everything that can be asked about what is held: each item, each
-    /// part at each position, the totals, outputs of each length.
-    fn sweep(&mut self, random: &mut Random, held: &[Vec<u8>]) {
-        let names: BTreeSet<&Vec<u8>> = held.iter().collect();
+    /// part at each position, its type, the totals, outputs of each length.
+    /// Then drops the types and relationships, one by one.
+    fn sweep(&mut self, random: &mut Random, list: &List) {
+        let names: BTreeSet<&Vec<u8>> = list.held.iter().collect();
         for name in names {
             self.compare(random, &Call::Find(name.clone())).ok();
             self.compare(random, &Call::View(name.clone())).ok();
@@ -423,6 +826,8 @@ impl Pair<'_> {
             let name = &out[..length];
             let call = Call::Read(random.flip_case(name), 0, 5000);
             let content = self.compare(random, &call).expect("a part")[0];
+            let call = Call::MediaType(random.flip_case(name), 127);
+            let media_type = self.compare(random, &call).map_or(0, |[length, ..]| length);
             if position == chosen {
                 for length in 0..=length + 2 {
                     self.compare(random, &Call::PartAt(position as u64, length))
@@ -433,8 +838,27 @@ impl Pair<'_> {
                     let call = Call::Read(name.to_vec(), random.pick(&[0, offset]), length);
                     self.compare(random, &call).expect("a part");
                 }
+                for length in 0..=media_type + 2 {
+                    let call = Call::MediaType(name.to_vec(), length);
+                    self.compare(random, &call).ok();
+                }
             }
         }
+        for extension in list.extensions.iter().collect::<BTreeSet<_>>() {
+            let call = Call::DropDefault(random.flip_case(extension));
+            self.compare(random, &call).ok();
+        }
+        self.compare(random, &Call::Totals).expect("a package");
+        for name in list.overrides.iter().collect::<BTreeSet<_>>() {
+            let call = Call::DropOverride(random.flip_case(name));
+            self.compare(random, &call).ok();
+        }
+        self.compare(random, &Call::Totals).expect("a package");
+        for (source, id) in list.relationships.iter().collect::<BTreeSet<_>>() {
+            let call = Call::DropRelationship(random.flip_case(source), id.clone());
+            self.compare(random, &call).ok();
+        }
+        self.compare(random, &Call::Totals).expect("a package");
     }
 }
 
@@ -459,7 +883,7 @@ fn run_list(random: &mut Random, style: Style, seen: &mut BTreeMap<(Kind, u64), 
         told: vec![format!("start {}, buffer {length}", list.capacity)],
     };
     let count = match style {
-        Style::Full => 350 + random.below(51),
+        Style::Full | Style::FullFields => 350 + random.below(51),
         _ => 50 + random.below(351),
     };
     for _ in 0..count {
@@ -467,15 +891,22 @@ fn run_list(random: &mut Random, style: Style, seen: &mut BTreeMap<(Kind, u64), 
         let call = list.call(random, charge);
         let answer = pair.compare(random, &call);
         match call {
-            Call::Put(name, _) if answer.is_ok() => list.held.push(name),
-            Call::Start(capacity) if answer.is_ok() => {
+            _ if answer.is_err() => {}
+            Call::Put(name, _) => list.held.push(name),
+            Call::PutDefault(extension, _) => list.extensions.push(extension),
+            Call::PutOverride(name, _) => list.overrides.push(name),
+            Call::PutRelationship(r) => list.relationships.push((r.source, r.id)),
+            Call::Start(capacity) => {
                 list.held.clear();
+                list.extensions.clear();
+                list.overrides.clear();
+                list.relationships.clear();
                 list.capacity = capacity;
             }
             _ => {}
         }
     }
-    pair.sweep(random, &list.held);
+    pair.sweep(random, &list);
     let calls = pair.told.len();
     assert!(bytes[..GUARD] == guards.0 && bytes[GUARD + length..] == guards.1);
     calls
@@ -570,6 +1001,85 @@ fn tiles_lists() {
             (Kind::Read, &[0, 13]),
         ],
     );
+}
+
+#[test]
+fn fields_lists() {
+    run_lists(
+        Style::Fields,
+        &[
+            (Kind::PutDefault, &[0, 7, 10, 15]),
+            (Kind::DropDefault, &[0, 7, 13]),
+            (Kind::PutOverride, &[0, 4, 7, 10, 15]),
+            (Kind::DropOverride, &[0, 4, 13]),
+            (Kind::MediaType, &[0, 3, 4, 13, 14]),
+            (Kind::PutRelationship, &[0, 4, 5, 8, 9, 10, 15]),
+            (Kind::DropRelationship, &[0, 4, 5, 8, 13]),
+        ],
+    );
+}
+
+#[test]
+fn full_fields_lists() {
+    run_lists(
+        Style::FullFields,
+        &[
+            (Kind::PutDefault, &[0, 7, 15]),
+            (Kind::PutOverride, &[0, 4, 7, 15]),
+            (Kind::PutRelationship, &[0, 4, 5, 8, 9, 15]),
+        ],
+    );
+}
+
+/// The sets of Defaults, Overrides and relationships at their limits, by hand.
+#[test]
+fn fields_at_the_limit() {
+    let mut buffer = vec![0; 20_000 + OVERHEAD];
+    let mut package = Package::start(&mut buffer, 20_000).expect("room");
+    let text = |start: &str, i: usize| format!("{start}{i}").into_bytes();
+    let relate = |package: &mut Package, i| {
+        package.put_relationship(b"/a", &text("r", i), b"k:", Mode::Internal, b"b")
+    };
+    for i in 0..DEFAULTS_MAX {
+        package.put_default(&text("e", i), b"a/b").expect("room");
+    }
+    for i in 0..OVERRIDES_MAX {
+        package.put_override(&text("/n", i), b"a/b").expect("room");
+    }
+    for i in 0..RELATIONSHIPS_MAX {
+        relate(&mut package, i).expect("room");
+    }
+    for i in 0..ITEMS_MAX {
+        package.put_item(&text("/n", i), b"x").expect("room");
+    }
+    let (full, taken) = (Err((15, 0)), Err((10, 0)));
+    let last = DEFAULTS_MAX;
+    let default = package.put_default(&text("e", last), b"a/b");
+    assert_eq!(default.map_err(numbers), full);
+    let default = package.put_default(b"E0", b"a/b");
+    assert_eq!(default.map_err(numbers), taken);
+    let last = OVERRIDES_MAX;
+    let name = package.put_override(&text("/n", last), b"a/b");
+    assert_eq!(name.map_err(numbers), full);
+    assert_eq!(package.put_override(b"/N0", b"a/b").map_err(numbers), taken);
+    let last = RELATIONSHIPS_MAX;
+    assert_eq!(relate(&mut package, last).map_err(numbers), full);
+    assert_eq!(relate(&mut package, 0).map_err(numbers), taken);
+    package.drop_default(b"E7").expect("held");
+    package.drop_override(b"/N7").expect("held");
+    package.drop_relationship(b"/A", b"r7").expect("held");
+    assert_eq!(
+        package.put_default(b"new.", b"a/b").map_err(numbers),
+        Err((7, 0))
+    );
+    assert_eq!(package.put_default(b"new", b"a/b"), Ok(()));
+    assert_eq!(package.put_override(b"/new", b"a/b"), Ok(()));
+    assert_eq!(relate(&mut package, last), Ok(()));
+    let mut out = [0; 3];
+    assert_eq!(package.media_type(b"/n8", &mut out), Ok(3));
+    assert_eq!(&out, b"a/b");
+    let none = package.media_type(b"/n7", &mut out).map_err(numbers);
+    assert_eq!(none, Err((14, 0)));
 }
 
 /// The set of items at its limit, by hand.
