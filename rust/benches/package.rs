@@ -14,12 +14,19 @@ use reference::ledger::Ledger;
 use std::hint::black_box;
 use std::time::Instant;
 use support::median;
-use zombirels::package::{Package, CAPACITY_MAX, OVERHEAD};
+use zombirels::package::{Mode, Package, CAPACITY_MAX, OVERHEAD};
 
 const TILE: usize = 4096;
 const BATCH: usize = 40;
 const BATCHES: usize = 50;
 const ROUNDS: usize = 15;
+
+/// What a batch does with each of its entries, first the one, then the other.
+#[derive(Clone, Copy)]
+enum Change {
+    Put,
+    Drop,
+}
 
 /// Both sides with the same items.
 struct Pair<'a> {
@@ -78,47 +85,30 @@ fn find(what: &str, count: usize) -> (f64, f64) {
 }
 
 /// The seconds of a batch's puts and of its drops, on one side.
-fn batch(
-    tiles: &[Vec<u8>],
-    bytes: &[u8],
-    mut change: impl FnMut(&[u8], Option<&[u8]>),
-) -> [f64; 2] {
-    let start = Instant::now();
-    for name in tiles {
-        change(black_box(name), Some(black_box(bytes)));
-    }
-    let put = start.elapsed();
-    let start = Instant::now();
-    for name in tiles {
-        change(black_box(name), None);
-    }
-    let dropped = start.elapsed();
-    [put, dropped].map(|time| time.as_secs_f64())
+fn batch(keys: &[Vec<u8>], mut change: impl FnMut(&[u8], Change)) -> [f64; 2] {
+    [Change::Put, Change::Drop].map(|what| {
+        let start = Instant::now();
+        for key in keys {
+            change(black_box(key), what);
+        }
+        start.elapsed().as_secs_f64()
+    })
 }
 
-fn puts_and_drops(what: [&str; 2], more: usize) {
-    let mut buffer = vec![0; CAPACITY_MAX as usize + OVERHEAD + more];
-    let mut pair = Pair::new(&mut buffer);
-    let bytes = vec![7; TILE];
-    // 2 of 11 tiles are for the batch, so that these lie all over the rest
-    let (batched, rest): (Vec<usize>, Vec<usize>) = (0..220).partition(|i| matches!(i % 11, 2 | 7));
-    let tiles: Vec<Vec<u8>> = batched.into_iter().map(tile).collect();
-    assert_eq!(tiles.len(), BATCH);
-    for i in rest {
-        pair.put(&tile(i), &bytes);
-    }
+/// Times puts and drops of the entries with these keys, on both sides.
+fn changes(
+    what: [&str; 2],
+    keys: &[Vec<u8>],
+    mut archive: impl FnMut(&[u8], Change),
+    mut reference: impl FnMut(&[u8], Change),
+) {
+    assert_eq!(keys.len(), BATCH);
     let mut times: [[Vec<f64>; 2]; 2] = Default::default();
     for number in 0..=ROUNDS {
         let mut sums = [[0.0; 2]; 2];
         for _ in 0..BATCHES {
-            let archive = batch(&tiles, &bytes, |name, bytes| match bytes {
-                Some(bytes) => pair.package.put_item(name, bytes).expect("room"),
-                None => pair.package.drop_item(name).expect("held"),
-            });
-            let reference = batch(&tiles, &bytes, |name, bytes| match bytes {
-                Some(bytes) => pair.ledger.put_item(name, bytes).expect("room"),
-                None => pair.ledger.drop_item(name).expect("held"),
-            });
+            let archive = batch(keys, &mut archive);
+            let reference = batch(keys, &mut reference);
             for half in 0..2 {
                 sums[half][0] += archive[half];
                 sums[half][1] += reference[half];
@@ -134,6 +124,133 @@ fn puts_and_drops(what: [&str; 2], more: usize) {
     for (what, sides) in what.iter().zip(times) {
         let [archive, reference] = sides.map(|times| median(times) / (BATCH * BATCHES) as f64);
         support::print_line(what, archive, reference);
+    }
+}
+
+fn puts_and_drops(what: [&str; 2], more: usize) {
+    let mut buffer = vec![0; CAPACITY_MAX as usize + OVERHEAD + more];
+    let mut pair = Pair::new(&mut buffer);
+    let bytes = vec![7; TILE];
+    // 2 of 11 tiles are for the batch, so that these lie all over the rest
+    let (batched, rest): (Vec<usize>, Vec<usize>) = (0..220).partition(|i| matches!(i % 11, 2 | 7));
+    let tiles: Vec<Vec<u8>> = batched.into_iter().map(tile).collect();
+    for i in rest {
+        pair.put(&tile(i), &bytes);
+    }
+    let Pair { package, ledger } = &mut pair;
+    changes(
+        what,
+        &tiles,
+        |name, change| match change {
+            Change::Put => package.put_item(name, black_box(&bytes)).expect("room"),
+            Change::Drop => package.drop_item(name).expect("held"),
+        },
+        |name, change| match change {
+            Change::Put => ledger.put_item(name, black_box(&bytes)).expect("room"),
+            Change::Drop => ledger.drop_item(name).expect("held"),
+        },
+    );
+}
+
+/// Types and relationships beside 200 tiles: 20 Defaults and 20 Overrides, 180
+/// relationships, and 40 more of each in turn.
+fn fields() {
+    let mut buffer = buffer();
+    let mut pair = Pair::new(&mut buffer);
+    for i in 0..200 {
+        pair.put(&tile(i), b"tile");
+    }
+    let Pair { package, ledger } = &mut pair;
+    let media_type = b"image/vnd.example.tile+tiff";
+    let extension = |i: usize| format!("ext{}-{i}", i * 7 % 20).into_bytes();
+    let (source, kind) = (
+        b"/slides/2026/ovary-17/index",
+        b"http://example.com/2026/tile",
+    );
+    let (target, internal) = (b"tiles/L3/r012c044.tiff", Mode::Internal);
+    let id = |i: usize| format!("r{}-{i}", i * 7 % 20).into_bytes();
+    for i in 40..60 {
+        package
+            .put_default(&extension(i), media_type)
+            .expect("room");
+        ledger.put_default(&extension(i), media_type).expect("room");
+        package.put_override(&tile(i), media_type).expect("room");
+        ledger.put_override(&tile(i), media_type).expect("room");
+    }
+    for i in 40..220 {
+        let id = id(i);
+        let put = package.put_relationship(source, &id, kind, internal, target);
+        put.expect("room");
+        let put = ledger.put_relationship(source, &id, kind, 0, target);
+        put.expect("room");
+    }
+    let keys: Vec<Vec<u8>> = (0..BATCH).map(extension).collect();
+    changes(
+        ["put Default among 40", "drop Default"],
+        &keys,
+        |extension, change| match change {
+            Change::Put => package.put_default(extension, media_type).expect("room"),
+            Change::Drop => package.drop_default(extension).expect("held"),
+        },
+        |extension, change| match change {
+            Change::Put => ledger.put_default(extension, media_type).expect("room"),
+            Change::Drop => ledger.drop_default(extension).expect("held"),
+        },
+    );
+    let keys: Vec<Vec<u8>> = (0..BATCH).map(tile).collect();
+    changes(
+        ["put Override among 40", "drop Override"],
+        &keys,
+        |name, change| match change {
+            Change::Put => package.put_override(name, media_type).expect("room"),
+            Change::Drop => package.drop_override(name).expect("held"),
+        },
+        |name, change| match change {
+            Change::Put => ledger.put_override(name, media_type).expect("room"),
+            Change::Drop => ledger.drop_override(name).expect("held"),
+        },
+    );
+    let keys: Vec<Vec<u8>> = (0..BATCH).map(id).collect();
+    changes(
+        ["put relationship among 200", "drop relationship"],
+        &keys,
+        |id, change| match change {
+            Change::Put => {
+                let put = package.put_relationship(source, id, kind, internal, target);
+                put.expect("room");
+            }
+            Change::Drop => package.drop_relationship(source, id).expect("held"),
+        },
+        |id, change| match change {
+            Change::Put => {
+                let put = ledger.put_relationship(source, id, kind, 0, target);
+                put.expect("room");
+            }
+            Change::Drop => ledger.drop_relationship(source, id).expect("held"),
+        },
+    );
+    package.put_default(b"tiff", b"image/tiff").expect("room");
+    ledger.put_default(b"tiff", b"image/tiff").expect("room");
+    let names: Vec<Vec<u8>> = (0..200).map(asked).collect();
+    let (mut out, mut other) = ([0; 127], [0; 127]);
+    for (what, first, count) in [
+        ("media type by Override", 40, 20),
+        ("media type by Default", 60, 140),
+    ] {
+        support::compare(
+            what,
+            50_000 / count,
+            count,
+            |i| {
+                let name = &names[first + i];
+                package.media_type(name, &mut out).expect("a type")
+            },
+            |i| {
+                let name = &names[first + i];
+                ledger.media_type(name, &mut other).expect("a type")
+            },
+        );
+        assert_eq!(out, other);
     }
 }
 
@@ -213,6 +330,7 @@ fn main() {
     puts_and_drops(longer, 4_000_000);
     reads();
     walks();
+    fields();
     println!(
         "find among 256 against 16: archive {:.2} times, reference {:.2} times",
         archive_256 / archive_16,
