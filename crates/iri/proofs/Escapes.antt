@@ -1,4 +1,4 @@
--- The authority of a pack IRI: what is escaped decodes to itself, has no / ? #, and is at most three times as long.
+-- The authority of a pack IRI: what is escaped decodes to itself, has no byte that ends an authority, and is at most three times as long.
 -- Assumes nothing.
 use Prim.Native.Nat.{ℕ, _+_, _≤_, _*_, suc, _<_}
 use mathlib.Core.Path.{_≡_, refl, subst, sym, ap, _∙_}

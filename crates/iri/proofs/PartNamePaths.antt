@@ -1,4 +1,4 @@
--- A part name has neither ? nor #: it is a path to its end.
+-- A part name has no byte that ends a path: it is a path to its end.
 -- Assumes nothing.
 use Prim.Native.Nat.{ℕ, suc}
 use mathlib.Core.Path.{_≡_, sym, _∙_, refl, ap}
@@ -21,7 +21,7 @@ use Rattle.iri.proofs.Escapes.{by-value}
 unfoldable clean : ℕ → Bool
 clean b = not (member PathEnd b)
 
--- a class without ? and # is clean
+-- a class without the bytes that end a path is clean
 class-clean : (p : ℕ → Bool) → p question ≡ false → p numberSign ≡ false → (b : ℕ) → p b ≡ true → clean b ≡ true
 unfolding clean member
 class-clean p f g b =

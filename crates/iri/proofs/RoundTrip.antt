@@ -50,7 +50,7 @@ unfolding firstOf member
 slash-first [] e = refl
 slash-first (x ∷ n) e = rw e
 
--- the components of pack:// a n, where a has no / ? # and n begins with a slash and has no ? #
+-- the components of pack:// a n, where nothing in a ends an authority, and n begins with a slash and has nothing that ends a path
 module _ (a n : List ℕ) (f : firstOf (member AuthorityEnd) (a ++ n) ≡ length a) (g : firstOf (member PathEnd) n ≡ length n) where
   abbrev s : List ℕ
   s = ascii "pack://" ++ (a ++ n)

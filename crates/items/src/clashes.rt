@@ -20,7 +20,7 @@ ghost use Rattle.contract.specs.Searches.{Bounded};
 ghost use Rattle.items.specs.Clashes.{tagsDisagree, Counted, Grown, Keyed, Opposed, OpposedBefore, Clashing, Cleared};
 
 // How many items there are.
-pub fn item_count(pkg: &[u8]) -> usize
+pub(crate) fn item_count(pkg: &[u8]) -> usize
     requires { ⌜ Shape (now pkg) ⌝ }
     ensures { λ r. ⌜ Counted (now (pkg .entry)) r ⌝ }
 {
@@ -118,7 +118,7 @@ fn clash_of(pkg: &[u8], s: &[u8], n: usize, t: usize, r: usize, m: usize) -> u8
 }
 
 // The refusal of a put whose name is accepted: 10, 12, 11, 15, or 0.
-pub fn put_refusal(pkg: &[u8], s: &[u8], n: usize, t: usize, r: usize, size: usize) -> u8
+pub(crate) fn put_refusal(pkg: &[u8], s: &[u8], n: usize, t: usize, r: usize, size: usize) -> u8
     requires { ⌜ Shape (now pkg) ⌝ }
     requires { ⌜ (n ≡ length (prefixOf (now s))) × (t ≡ tagOf (suffixOf (now s))) × (itemField (now s) ≡ 0) ⌝ }
     requires { ⌜ Bounded (now pkg) (keyIn 0 (take n (now s)) t []) r ⌝ }

@@ -42,7 +42,7 @@ fn tag_of(x: Suffix) -> usize
 }
 
 // A name as find and view take it.
-pub fn asked(s: &[u8]) -> Wanted
+pub(crate) fn asked(s: &[u8]) -> Wanted
     ensures { λ r. ⌜ r ≡ wanted (askedField (now (s .entry))) (now (s .entry)) ⌝ }
 {
     let split = take_apart(s);
@@ -53,7 +53,7 @@ pub fn asked(s: &[u8]) -> Wanted
 }
 
 // A name as put and drop take it.
-pub fn strict(s: &[u8]) -> Wanted
+pub(crate) fn strict(s: &[u8]) -> Wanted
     ensures { λ r. ⌜ r ≡ wanted (itemField (now (s .entry))) (now (s .entry)) ⌝ }
 {
     let split = take_apart(s);
@@ -67,7 +67,7 @@ pub fn strict(s: &[u8]) -> Wanted
 }
 
 // The row of the item with the prefix and the tag of s, or the number of rows.
-pub fn locate(pkg: &[u8], s: &[u8], n: usize, t: usize) -> usize
+pub(crate) fn locate(pkg: &[u8], s: &[u8], n: usize, t: usize) -> usize
     requires { ⌜ Shape (now pkg) ⌝ }
     requires { ⌜ (n ≡ length (prefixOf (now s))) × (t ≡ tagOf (suffixOf (now s))) ⌝ }
     ensures { λ r. ⌜ Located (now (pkg .entry)) (now (s .entry)) r ⌝ }

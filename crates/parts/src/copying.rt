@@ -20,7 +20,7 @@ pub fn put_all(text: &[u8], out: &mut [u8]) -> Written
 }
 
 // Copies what a text has past `skip` bytes to place `at` of the output, as much as fits there. The place behind it.
-pub fn copy_rest(out: &mut [u8], at: usize, text: &[u8], skip: u64) -> usize
+pub(crate) fn copy_rest(out: &mut [u8], at: usize, text: &[u8], skip: u64) -> usize
     requires { ⌜ at ≤ length (now out) ⌝ }
     ensures { λ r. ⌜ Sent (now (out .entry)) at (take (length (now (out .entry)) - at) (drop skip (now (text .entry)))) r (now (out .exit)) ⌝ }
 {

@@ -31,7 +31,7 @@ fn one_if(b: bool) -> usize
 }
 
 // Walks over n items, group by group, to the first row of the part at the position, or to the end.
-pub fn walk(pkg: &[u8], n: usize, position: u64) -> Stop
+pub(crate) fn walk(pkg: &[u8], n: usize, position: u64) -> Stop
     requires { ⌜ n ≤ slotCount ⌝ }
     ensures { λ r. ⌜ Walked (now (pkg .entry)) n position (r .row) (r .passed) ⌝ }
 {
