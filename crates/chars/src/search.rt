@@ -1,12 +1,9 @@
 // Searching a text for bytes.
-use crate::table::class;
-use crate::table::table;
 ghost use mathlib.Core.Path.{_≡_};
 ghost use Prim.Native.Nat.{_+_};
 ghost use lib.ListN.{getD, drop};
-ghost use Rattle.chars.specs.Bytes.{letter, digit, hexDigit, member};
-ghost use Rattle.chars.specs.Classes.{classes};
-ghost use Rattle.chars.specs.Lists.{every, firstOf, indexOf, afterLast, lacks};
+ghost use Rattle.chars.specs.Bytes.{letter, digit, hexDigit};
+ghost use Rattle.chars.specs.Lists.{indexOf, afterLast, lacks};
 
 // The sets of bytes that texts are made of, or searched for.
 pub enum Alphabet {
@@ -36,63 +33,11 @@ pub fn is_hex_digit(b: u8) -> bool
     is_digit(b) | ((b'A' <= b) & (b <= b'F')) | ((b'a' <= b) & (b <= b'f'))
 }
 
-pub fn is_member(t: &[u8; 256], a: Alphabet, b: u8) -> bool
-    requires { ⌜ now t ≡ classes ⌝ }
-    ensures { λ r. ⌜ r ≡ member a b ⌝ }
-{
-    let k = class(t, b);
-    match a {
-        Alphabet::Token => (k <= 7) | ((12 <= k) & (k <= 14)),
-        Alphabet::Scheme => (k <= 3) | (k == 6),
-        Alphabet::Id => k <= 4,
-        Alphabet::SchemeEnd => (9 <= k) & (k <= 12),
-        Alphabet::AuthorityEnd => (10 <= k) & (k <= 12),
-        Alphabet::PathEnd => (11 <= k) & (k <= 12),
-    }
-}
-
 // Past the end stands 0, which is in no class.
 pub fn byte_at(s: &[u8], i: usize) -> u8
     ensures { λ r. ⌜ r ≡ getD (now (s .entry)) i 0 ⌝ }
 {
     if i < s.len() { s[i] } else { 0 }
-}
-
-pub fn all_members(t: &[u8; 256], a: Alphabet, s: &[u8]) -> bool
-    requires { ⌜ now t ≡ classes ⌝ }
-    ensures { λ r. ⌜ r ≡ every (member a) (now (s .entry)) ⌝ }
-{
-    let mut i = 0;
-    while i < s.len() {
-        if is_member(t, a, s[i]) {
-            i += 1;
-        } else {
-            return false;
-        }
-    }
-    true
-}
-
-fn first_by(t: &[u8; 256], a: Alphabet, s: &[u8]) -> usize
-    requires { ⌜ now t ≡ classes ⌝ }
-    ensures { λ r. ⌜ r ≡ firstOf (member a) (now (s .entry)) ⌝ }
-{
-    let mut i = 0;
-    while i < s.len() {
-        if is_member(t, a, s[i]) {
-            return i;
-        }
-        i += 1;
-    }
-    i
-}
-
-// The index of the first byte of the set, or the length.
-pub fn first_member(a: Alphabet, s: &[u8]) -> usize
-    ensures { λ r. ⌜ r ≡ firstOf (member a) (now (s .entry)) ⌝ }
-{
-    let t = table();
-    first_by(&t, a, s)
 }
 
 // The index of the first b from index `from` on, or the length.

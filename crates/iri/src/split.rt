@@ -2,7 +2,7 @@
 use chars::search::Alphabet;
 use chars::search::byte_at;
 use chars::search::find;
-use chars::search::first_member;
+use names::members::first_member;
 ghost use mathlib.Core.Path.{_≡_};
 ghost use Rattle.iri.specs.Components.{schemeLength, authorityLength, SplitAt};
 

@@ -1,14 +1,15 @@
 // IRIs.
+use crate::members::all_members;
+use crate::members::first_by;
+use crate::members::first_member;
+use crate::table::table;
+use crate::units::all_units;
 use chars::search::Alphabet;
-use chars::search::all_members;
 use chars::search::byte_at;
 use chars::search::find;
-use chars::search::first_member;
 use chars::search::has_no;
 use chars::search::is_letter;
-use chars::table::table;
 use chars::units::Grammar;
-use chars::units::all_units;
 ghost use mathlib.Core.Path.{_≡_};
 ghost use Prim.Native.Nat.{_+_};
 ghost use lib.ListN.{drop};
@@ -51,7 +52,7 @@ pub fn is_iri(s: &[u8]) -> bool
         return false;
     }
     let t = table();
-    let k = first_member(Alphabet::SchemeEnd, s);
+    let k = first_by(&t, Alphabet::SchemeEnd, s);
     (1 <= n)
         & all_units(&t, Grammar::Iri, s)
         & has_no(after(s, b'#'), b'#')

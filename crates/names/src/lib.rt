@@ -1,5 +1,8 @@
 // Names: part names, item names, media types, extensions, ids, IRIs.
 pub mod iris;
 pub mod items;
+pub mod members;
 pub mod parts;
+mod table;
 pub mod types;
+mod units;

@@ -1,12 +1,12 @@
 // Part names.
+use crate::table::table;
+use crate::units::all_units;
 use chars::folding::ends_in;
 use chars::folding::is_equivalent;
 use chars::search::byte_at;
 use chars::search::find;
 use chars::search::find_past;
-use chars::table::table;
 use chars::units::Grammar;
-use chars::units::all_units;
 ghost use mathlib.Core.Path.{_≡_};
 ghost use lib.ListN.{drop};
 ghost use Rattle.chars.specs.Bytes.{ascii, slash};

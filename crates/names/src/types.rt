@@ -1,13 +1,13 @@
 // Media types, extensions, relationship ids.
+use crate::members::all_members;
+use crate::table::table;
+use crate::units::all_units;
 use chars::search::Alphabet;
-use chars::search::all_members;
 use chars::search::byte_at;
 use chars::search::find;
 use chars::search::has_no;
 use chars::search::is_letter;
-use chars::table::table;
 use chars::units::Grammar;
-use chars::units::all_units;
 ghost use mathlib.Core.Path.{_≡_};
 ghost use Rattle.chars.specs.Classes.{classes};
 ghost use Rattle.names.specs.Types.{token, mediaType, extension, identifier};

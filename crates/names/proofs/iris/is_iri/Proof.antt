@@ -20,8 +20,8 @@ returns c = rw (lt-leb _ _ (c .if1 .taken), and-false)
 table-requires : tie.Need-table-requires
 table-requires c κs = search needs
 
-first-member-requires : tie.Need-first-member-requires
-first-member-requires c κs = search needs
+first-by-requires : tie.Need-first-by-requires
+first-by-requires c κs = search needs
 
 all-units-requires : tie.Need-all-units-requires
 all-units-requires c κs = search needs
@@ -36,13 +36,17 @@ byte-at-requires : tie.Need-byte-at-requires
 byte-at-requires c κs = search needs
 
 slice-aggregate-is-scheme : tie.Need-slice-aggregate-is-scheme
-slice-aggregate-is-scheme c = sym (length-take-le _ (c .before .before .before .before .before .before .before .before .before .before .before .args .s .now) (omega (arith, c .before .before .before .before .before .before .before .first-member .ensures, first-le (member SchemeEnd) (c .before .before .before .before .before .before .before .before .before .before .before .args .s .now))))
+slice-aggregate-is-scheme c =
+    let s = c .before .before .before .before .before .before .before .before .before .before .before .before .args .s .now in
+    sym (length-take-le _ s (omega (arith, c .before .before .before .before .before .before .before .first-by .ensures, first-le (member SchemeEnd) s)))
 
 is-scheme-requires : tie.Need-is-scheme-requires
 is-scheme-requires c κs = search needs
 
 returns-2 : tie.Need-returns-2
-returns-2 c = iri-is _ (c .before .before .before .before .before .before .before .before .first-member .result) _ _ _ _ (c .before .before .before .before .before .before .before .before .before .before .if1 .left) (c .before .before .before .before .before .before .before .before .first-member .ensures) (c .before .before .before .before .before .before .all-units .ensures) (c .before .before .before .before .has-no .ensures ∙ ap (lacks numberSign) (c .before .before .before .before .before .after .ensures)) (c .before .before .before .byte-at .ensures) (c .is-scheme .ensures)
+returns-2 c =
+    iri-is _ (c .before .before .before .before .before .before .before .before .first-by .result) _ _ _ _ (c .before .before .before .before .before .before .before .before .before .before .before .if1 .left) (c .before .before .before .before .before .before .before .before .first-by .ensures) (c .before .before .before .before .before .before .all-units .ensures)
+    (c .before .before .before .before .has-no .ensures ∙ ap (lacks numberSign) (c .before .before .before .before .before .after .ensures)) (c .before .before .before .byte-at .ensures) (c .is-scheme .ensures)
 
 pub is-iri-spec : {M : Type 1} → statement M
 is-iri-spec =
@@ -50,7 +54,7 @@ is-iri-spec =
     (tie.spec
     returns
     table-requires
-    first-member-requires
+    first-by-requires
     all-units-requires
     after-requires
     has-no-requires
