@@ -2,21 +2,31 @@
 -- Assumes nothing.
 use Prim.Native.Nat.{ℕ}
 use mathlib.Core.Path.{_≡_, refl, ap, ap₂, sym, _∙_, subst}
-use mathlib.Core.Bool.{Bool, true, false}
+use mathlib.Core.Bool.{Bool, true, false, false≢true}
 use mathlib.Core.List.{List, [], _∷_, map}
 use lib.Dec.{eqb}
 use lib.ListN.{length}
 use borrow.Author.Tests.{eqb-true, eqb-false}
 use Rattle.chars.specs.Folding.{equivalent, derivable}
 use Rattle.iri.specs.Answers.{Answer}
-use Rattle.model.specs.Sets.{sumOf, Pairs}
-use Rattle.model.specs.Package.{Item, State, empty, charge}
+use Rattle.chars.specs.declared.folding.Order.{Order}
+use Rattle.chars.specs.declared.folding.Order.the-variants.{Less, Equal, Greater}
+use Rattle.model.specs.Sets.{Key, keyOrder, isLess, isEqual, sumOf, Pairs}
+use Rattle.model.specs.Package.{Item, State, empty, itemLimit, defaultLimit, overrideLimit, relationshipLimit, keyOfItem, keyOfDefault, keyOfOverride, keyOfRelationship, charge}
 use Rattle.model.specs.Calls.{Call, Start, startRefusal, step, answers, after, look}
-use Rattle.model.specs.Good.{Good, Beside}
+use Rattle.model.specs.Good.{Good, GoodSet, Beside, fieldsOfItem, fieldsOfDefault, fieldsOfOverride, fieldsOfRelationship}
 use Rattle.model.proofs.Lists.{pairs-map}
 use Rattle.contract.specs.Holds.{Holds}
 use Rattle.contract.specs.Ran.{Ran, Runs, none, more}
-use Rattle.package.specs.Demand.{Demanded, callsOf, answersOf, AsLedger, EveryRun}
+use Rattle.package.specs.Demand.{Limited, Demanded, callsOf, answersOf, AsLedger, EveryRun}
+
+less-differs : (o : Order) → isLess o ≡ true → isEqual o ≡ false
+less-differs Less e = refl
+less-differs Equal e = absurd (false≢true e)
+less-differs Greater e = refl
+
+good-limited : {E : Type 0} (key : E → Key) (limit : ℕ) (fields : E → ℕ) (xs : List E) → GoodSet key limit fields xs → Limited key limit xs
+good-limited key limit fields xs g = record { few = g .few; single = pairs-map _ _ xs (λ x y b. less-differs (keyOrder (key x) (key y)) b) (g .sorted) }
 
 good-demanded : (S : State) → Good S → Demanded S
 unfolding look charge
@@ -25,6 +35,11 @@ good-demanded S g = record {
   numbered = pairs-map Beside _ (S .items) (λ i j b. b .numbered) (g .beside);
   underived = pairs-map Beside _ (S .items) (λ i j b. b .underived) (g .beside);
   totals = λ room. refl;
+  items = good-limited keyOfItem itemLimit fieldsOfItem (S .items) (g .items);
+  defaults = good-limited keyOfDefault defaultLimit fieldsOfDefault (S .defaults) (g .defaults);
+  overrides = good-limited keyOfOverride overrideLimit fieldsOfOverride (S .overrides) (g .overrides);
+  relationships = good-limited keyOfRelationship relationshipLimit fieldsOfRelationship (S .relationships) (g .relationships);
+  within = g .within;
 }
 
 every-from : (room : ℕ) {p q : List ℕ} {s : List (Call × Answer)} → Runs p s q → (S : State) → room ≡ length p → Holds p S → AsLedger room S s q

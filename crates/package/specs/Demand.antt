@@ -1,20 +1,26 @@
 -- Demand 3: what holds of every list of calls on one package just started. `proofs/EveryRun.antt` proves it.
 -- Assumes nothing.
-use Prim.Native.Nat.{ℕ, _+_}
+use Prim.Native.Nat.{ℕ, _+_, _≤_}
 use mathlib.Core.Path.{_≡_}
 use mathlib.Core.Bool.{Bool, true, false, _||_}
 use mathlib.Core.List.{List, [], _∷_, map}
 use lib.ListN.{length}
 use Rattle.chars.specs.Folding.{equivalent, derivable}
 use Rattle.iri.specs.Answers.{Answer, answer}
-use Rattle.model.specs.Sets.{sumOf, Pairs}
+use Rattle.model.specs.Sets.{Key, sameKey, sumOf, Pairs}
 use Rattle.model.specs.Fields.{prefixOf, suffixOf, whole}
-use Rattle.model.specs.Package.{Item, State, empty, rank, itemCharge, defaultCharge, overrideCharge, relationshipCharge, parts}
+use Rattle.model.specs.Package.{Item, State, empty, itemLimit, defaultLimit, overrideLimit, relationshipLimit, rank, keyOfItem, keyOfDefault, keyOfOverride, keyOfRelationship, itemCharge, defaultCharge, overrideCharge, relationshipCharge, charge, parts}
 use Rattle.model.specs.Calls.{Call, Start, Looks, Totals, step, answers, after}
 use Rattle.contract.specs.Holds.{Holds}
 use Rattle.contract.specs.Ran.{Ran, Runs}
 
--- what demand 3 says of the abstract package after every list; the first three of every two held items
+-- a set: at most so many entries, and no key twice
+module _ {E : Type 0} (key : E → Key) (limit : ℕ) where
+  pub record Limited (xs : List E) : Type 0 where
+    pub few : length xs ≤ limit
+    pub single : Pairs (λ (x y : E). sameKey (key x) (key y) ≡ false) xs
+
+-- what demand 3 says of the abstract package after every list, the first three of every two held items; and what the ledger's text says of its sets
 pub record Demanded (S : State) : Type 0 where
   -- "a held whole item's name is equivalent to no other held item's prefix"
   pub alone : Pairs (λ (i j : Item). (whole (suffixOf (i .name)) || whole (suffixOf (j .name))) ≡ true → equivalent (prefixOf (i .name)) (prefixOf (j .name)) ≡ false) (S .items)
@@ -30,6 +36,13 @@ pub record Demanded (S : State) : Type 0 where
       ∷ (sumOf itemCharge (S .items) + sumOf defaultCharge (S .defaults) + sumOf overrideCharge (S .overrides) + sumOf relationshipCharge (S .relationships))
       ∷ [])
       []
+  -- "At most 256, 64, 64 and 256."; "10 taken: .. an equal key"
+  pub items : Limited keyOfItem itemLimit (S .items)
+  pub defaults : Limited keyOfDefault defaultLimit (S .defaults)
+  pub overrides : Limited keyOfOverride overrideLimit (S .overrides)
+  pub relationships : Limited keyOfRelationship relationshipLimit (S .relationships)
+  -- "15 .. the charge would pass C"
+  pub within : charge S ≤ S .capacity
 
 abbrev pub callsOf : List (Call × Answer) → List Call
 callsOf = map (λ (t : Call × Answer). t .0)
