@@ -1,0 +1,192 @@
+/*
+ * The Zombirels package engine for C: the functions of target/staticlib/libabi.a,
+ * which `rt staticlib abi` makes.
+ *
+ * LENDING. A byte string is a pointer and a length. The engine keeps no pointer
+ * past its return, allocates nothing and has no state of its own: a package is
+ * the bytes that the caller lends, and nothing else. For every argument:
+ * - the pointer is not NULL, not even with length 0, and so many bytes lie behind it;
+ * - `const uint8_t *` is read only, `uint8_t *` may be written as well;
+ * - what may be written overlaps no other argument, and nobody else reads or
+ *   writes it during the call.
+ * Any bytes may be given in any argument. Names are not ended by a NUL.
+ *
+ * ANSWERS. A call that can be refused returns an opc_reply. A refused call leaves
+ * the package and the output as they were. A call that writes leaves the output
+ * past the written bytes as it was; if the output is too short it writes nothing,
+ * answers OPC_OUTPUT_TOO_SHORT and the length that is needed.
+ *
+ * Two calls on one package must not run at once unless both only read it.
+ */
+#ifndef OPC_H
+#define OPC_H
+
+#include <stdbool.h>
+#include <stddef.h>
+#include <stdint.h>
+
+#ifdef __cplusplus
+extern "C" {
+#endif
+
+/* The numbers of a reply. */
+enum opc_number {
+    OPC_ACCEPTED = 0,
+    /* who lends memory */
+    OPC_NOT_A_PACKAGE = 1,         /* the buffer is no package */
+    OPC_BAD_START = 2,             /* the capacity is above 1,000,000 or the buffer too short */
+    OPC_OUTPUT_TOO_SHORT = 3,      /* `first` is the length needed */
+    /* who names */
+    OPC_NOT_A_PART_NAME = 4,
+    OPC_RESERVED = 5,              /* an item, a source or a resolved target that is reserved */
+    OPC_BAD_SUFFIX = 6,            /* after the last slash stands a `[` that begins no piece suffix */
+    /* who fills fields */
+    OPC_BAD_TYPE = 7,              /* media type or extension */
+    OPC_BAD_RELATIONSHIP_FIELD = 8, /* id, relationship type or mode */
+    OPC_BAD_TARGET = 9,            /* target, package IRI or pack IRI */
+    /* earlier calls */
+    OPC_TAKEN = 10,                /* the name or the key is held already */
+    OPC_DERIVABLE = 11,            /* the prefix is derivable from a held one, or a held one from it */
+    OPC_PIECES_DISAGREE = 12,      /* whole beside piece, second last piece, a number above the last */
+    OPC_NOT_HELD = 13,             /* not held, no part yet, or no such position */
+    OPC_NO_MEDIA_TYPE = 14,
+    OPC_FULL = 15,                 /* a set is full, or the charge would pass the capacity */
+    /* the program `sheet`; no function answers it */
+    OPC_UNREADABLE_LINE = 16
+};
+
+/* Of the three values the first `count` are the call's; the others are 0. */
+typedef struct opc_reply {
+    uint64_t number; /* 0, or the number of the refusal */
+    uint64_t count;
+    uint64_t first;
+    uint64_t second;
+    uint64_t third;
+} opc_reply;
+
+/* What a package's buffer has beside its capacity, and the limits of a package. */
+#define OPC_OVERHEAD 32768
+#define OPC_CAPACITY_MAX 1000000
+#define OPC_ITEMS_MAX 256
+#define OPC_DEFAULTS_MAX 64
+#define OPC_OVERRIDES_MAX 64
+#define OPC_RELATIONSHIPS_MAX 256
+
+/* The modes of a relationship. */
+#define OPC_INTERNAL 0
+#define OPC_EXTERNAL 1
+
+/* JUDGEMENTS on any bytes. */
+bool opc_is_part_name(const uint8_t *name, size_t name_length);
+bool opc_is_reserved(const uint8_t *name, size_t name_length); /* of a part name */
+bool opc_is_media_type(const uint8_t *text, size_t text_length);
+bool opc_is_extension(const uint8_t *text, size_t text_length);
+bool opc_is_id(const uint8_t *text, size_t text_length);
+bool opc_is_iri(const uint8_t *text, size_t text_length);
+bool opc_is_package_iri(const uint8_t *text, size_t text_length);
+
+/* Names without regard to the case of ASCII letters: whether they are one name, whether a grows out of b by further segments. */
+bool opc_is_equivalent(const uint8_t *a, size_t a_length, const uint8_t *b, size_t b_length);
+bool opc_is_derivable(const uint8_t *a, size_t a_length, const uint8_t *b, size_t b_length);
+
+/* Folded order: 0 if a comes before b, 1 if they are equivalent, 2 if a comes after b. */
+uint8_t opc_compare_folded(const uint8_t *a, size_t a_length, const uint8_t *b, size_t b_length);
+
+/* Where a part name's extension begins, 0 if it has none. */
+size_t opc_extension_at(const uint8_t *name, size_t name_length);
+
+/* An item name taken apart: the prefix's length; 0 for a whole item, 1 for a piece, 2 for the last piece; the piece's number. */
+opc_reply opc_take_apart(const uint8_t *name, size_t name_length);
+
+/* IRIS. Each writes one text to `out` and answers its length. */
+
+/* A reference against a package IRI, RFC 3986 5.2. */
+opc_reply opc_resolve_reference(const uint8_t *base, size_t base_length, const uint8_t *reference, size_t reference_length,
+                                uint8_t *out, size_t out_length);
+
+/* The part name that an internal target leads to from a source, `/` or a part name. */
+opc_reply opc_resolve_target(const uint8_t *source, size_t source_length, const uint8_t *target, size_t target_length,
+                             uint8_t *out, size_t out_length);
+
+/* The pack IRI of a part, or of the package if the name is `/`. 1,027 bytes suffice. */
+opc_reply opc_compose_pack_iri(const uint8_t *base, size_t base_length, const uint8_t *name, size_t name_length,
+                               uint8_t *out, size_t out_length);
+
+/* The package IRI of a pack IRI, directly followed by the part name, if there is one: both lengths. 510 bytes suffice. */
+opc_reply opc_resolve_pack_iri(const uint8_t *iri, size_t iri_length, uint8_t *out, size_t out_length);
+
+/* The name of a source's Relationships part, and back. 266 bytes suffice. */
+opc_reply opc_relationships_part(const uint8_t *source, size_t source_length, uint8_t *out, size_t out_length);
+opc_reply opc_source_of_relationships_part(const uint8_t *name, size_t name_length, uint8_t *out, size_t out_length);
+
+/*
+ * PACKAGES. `package` is the whole lent buffer, at least `capacity` + OPC_OVERHEAD
+ * bytes, in every call; its bytes may be stored, mapped or moved between calls.
+ */
+
+/* Makes an empty package of the buffer, whatever it held. */
+opc_reply opc_start(uint8_t *package, size_t package_length, uint64_t capacity);
+
+/* Holds a whole item (`/t3`) or a piece (`/t3/[0].piece`); drops it. */
+opc_reply opc_put_item(uint8_t *package, size_t package_length, const uint8_t *name, size_t name_length,
+                       const uint8_t *bytes, size_t bytes_length);
+opc_reply opc_drop_item(uint8_t *package, size_t package_length, const uint8_t *name, size_t name_length);
+
+/* The length of an item. */
+opc_reply opc_find_item(const uint8_t *package, size_t package_length, const uint8_t *name, size_t name_length);
+
+/* Where an item's bytes begin in the package, and their number. It is never refused: of an item that is not held there are 0. */
+opc_reply opc_view_item(const uint8_t *package, size_t package_length, const uint8_t *name, size_t name_length);
+
+/* Copies a part's content from `offset` on, as much as `out` takes: how many bytes these are. */
+opc_reply opc_read_part(const uint8_t *package, size_t package_length, const uint8_t *name, size_t name_length, uint64_t offset,
+                        uint8_t *out, size_t out_length);
+
+/* Copies the name of the part at a position, from 0, in folded order: its length. 255 bytes suffice. */
+opc_reply opc_part_at(const uint8_t *package, size_t package_length, uint64_t position, uint8_t *out, size_t out_length);
+
+/* How many items are held, how many parts they make, and the charge. */
+opc_reply opc_totals(const uint8_t *package, size_t package_length);
+
+/* The media type of an extension. */
+opc_reply opc_put_default(uint8_t *package, size_t package_length, const uint8_t *extension, size_t extension_length,
+                          const uint8_t *media_type, size_t media_type_length);
+opc_reply opc_drop_default(uint8_t *package, size_t package_length, const uint8_t *extension, size_t extension_length);
+
+/* The media type of one part name, which goes before that of its extension. */
+opc_reply opc_put_override(uint8_t *package, size_t package_length, const uint8_t *name, size_t name_length,
+                           const uint8_t *media_type, size_t media_type_length);
+opc_reply opc_drop_override(uint8_t *package, size_t package_length, const uint8_t *name, size_t name_length);
+
+/* Copies the media type of a part: its length. 127 bytes suffice. */
+opc_reply opc_media_type(const uint8_t *package, size_t package_length, const uint8_t *name, size_t name_length,
+                         uint8_t *out, size_t out_length);
+
+/* A relationship from a source, `/` or a part name; `kind` is its type. A mode other than OPC_INTERNAL and OPC_EXTERNAL is refused. */
+opc_reply opc_put_relationship(uint8_t *package, size_t package_length, const uint8_t *source, size_t source_length,
+                               const uint8_t *id, size_t id_length, const uint8_t *kind, size_t kind_length, uint64_t mode,
+                               const uint8_t *target, size_t target_length);
+opc_reply opc_drop_relationship(uint8_t *package, size_t package_length, const uint8_t *source, size_t source_length,
+                                const uint8_t *id, size_t id_length);
+
+/* LINKS AND STREAMS */
+
+/* Writes the IRI that a relationship leads to from the package IRI `base`: its length, its mode, and 1 if the part is held, else 0. */
+opc_reply opc_resolve_relationship(const uint8_t *package, size_t package_length, const uint8_t *source, size_t source_length,
+                                   const uint8_t *id, size_t id_length, const uint8_t *base, size_t base_length,
+                                   uint8_t *out, size_t out_length);
+
+/* Writes the Defaults and Overrides as XML: its length. */
+opc_reply opc_write_types(const uint8_t *package, size_t package_length, uint8_t *out, size_t out_length);
+
+/* Writes the relationships of a source as XML: its length. */
+opc_reply opc_write_relationships(const uint8_t *package, size_t package_length, const uint8_t *source, size_t source_length,
+                                  uint8_t *out, size_t out_length);
+
+/* end of LINKS AND STREAMS */
+
+#ifdef __cplusplus
+}
+#endif
+
+#endif
