@@ -1,0 +1,192 @@
+//! A small viewer: loads a slide into one lent buffer and shows what it holds.
+//!
+//!     cargo run --example view [SHEET [LINKS]]
+//!
+//! SHEET has lines as the program `sheet` reads them, LINKS a line for each
+//! relationship: source, id, mode (internal or external), target, type. The
+//! slide in `samples/` is shown if none is given.
+
+use std::error::Error;
+use std::path::Path;
+use std::{env, fs};
+use zombirels::iri::{compose_pack_iri, resolve_reference, resolve_target};
+use zombirels::package::{Mode, Package, Totals, OVERHEAD};
+use zombirels::Refusal;
+
+const CAPACITY: usize = 30_000;
+
+/// Where this slide is kept.
+const BASE: &[u8] = b"http://slides.example.org/teaching/ovary-17.opc";
+
+/// A line of LINKS.
+struct Link<'a> {
+    source: &'a [u8],
+    id: &'a [u8],
+    mode: Mode,
+    target: &'a [u8],
+    kind: &'a [u8],
+}
+
+fn main() -> Result<(), Box<dyn Error>> {
+    let mut files = env::args().skip(1);
+    let mut read = |sample: &str| {
+        let samples = Path::new(env!("CARGO_MANIFEST_DIR")).join("../samples");
+        fs::read(files.next().map_or(samples.join(sample), Into::into))
+    };
+    let (sheet, links) = (read("slide.sheet")?, read("slide.links")?);
+
+    let mut buffer = vec![0; CAPACITY + OVERHEAD];
+    let mut slide = Package::start(&mut buffer, CAPACITY as u64)?;
+    println!("Loading");
+    load(&mut slide, &sheet);
+    let links = load_links(&mut slide, &links);
+    show_parts(&slide)?;
+    show_links(&links);
+    Ok(())
+}
+
+/// Puts what the lines say; tells the refused ones.
+fn load(slide: &mut Package, sheet: &[u8]) {
+    for line in lines(sheet) {
+        let mut fields = line.splitn(3, |&byte| byte == b' ');
+        let mut next = || fields.next().unwrap_or_default();
+        let (command, name, rest) = (next(), next(), next());
+        let answer = match command {
+            b"P" => slide.put_item(name, rest),
+            b"X" => slide.drop_item(name),
+            b"D" => slide.put_default(name, rest),
+            b"O" => slide.put_override(name, rest),
+            b"L" => Ok(()),
+            _ => Err(Refusal::UnreadableLine),
+        };
+        if let Err(refusal) = answer {
+            println!("  {} {}: {refusal}", text(command), text(name));
+        }
+    }
+}
+
+/// Puts the relationships; tells the refused ones and hands back the others.
+fn load_links<'a>(slide: &mut Package, links: &'a [u8]) -> Vec<Link<'a>> {
+    let mut held = Vec::new();
+    for line in lines(links) {
+        let fields: Vec<&[u8]> = line.split(|&byte| byte == b' ').collect();
+        let link = match fields[..] {
+            [source, id, mode @ (b"internal" | b"external"), target, kind] => Link {
+                source,
+                id,
+                mode: match mode {
+                    b"internal" => Mode::Internal,
+                    _ => Mode::External,
+                },
+                target,
+                kind,
+            },
+            _ => {
+                println!("  {}: no link", text(line));
+                continue;
+            }
+        };
+        match slide.put_relationship(link.source, link.id, link.kind, link.mode, link.target) {
+            Ok(()) => held.push(link),
+            Err(refusal) => println!("  {} {}: {refusal}", text(link.source), text(link.id)),
+        }
+    }
+    held
+}
+
+/// The parts in folded order, with their pieces, sizes and media types.
+fn show_parts(slide: &Package) -> Result<(), Refusal> {
+    let Totals {
+        items,
+        parts,
+        charge,
+    } = slide.totals()?;
+    println!("\n{parts} parts of {items} items, {charge} of {CAPACITY} bytes");
+    let mut name = [0; 255];
+    for position in 0..parts as u64 {
+        let length = slide.part_at(position, &mut name)?;
+        let name = &name[..length];
+        let sizes = sizes(slide, name)?;
+        let media_type = media_type(slide, name)?;
+        let bytes: usize = sizes.iter().sum();
+        let shown: Vec<String> = sizes.iter().map(usize::to_string).collect();
+        let pieces = match sizes.len() {
+            1 => String::new(),
+            _ => format!(", pieces of {}", shown.join(", ")),
+        };
+        println!("  {} ({media_type}): {bytes} bytes{pieces}", text(name));
+        println!("    {}", begin(slide, name)?);
+    }
+    Ok(())
+}
+
+/// The lengths of a part's items: one if it is whole, else of its pieces.
+fn sizes(slide: &Package, part: &[u8]) -> Result<Vec<usize>, Refusal> {
+    match slide.find_item(part) {
+        Ok(length) => return Ok(vec![length]),
+        Err(Refusal::NotHeld) => {}
+        Err(refusal) => return Err(refusal),
+    }
+    let mut sizes = Vec::new();
+    loop {
+        let piece = |mark: &str| format!("/[{}]{mark}.piece", sizes.len()).into_bytes();
+        let name = |mark: &str| [part, &piece(mark)].concat();
+        match slide.find_item(&name("")) {
+            Ok(length) => sizes.push(length),
+            // a part has a last piece
+            Err(_) => {
+                let last = slide.find_item(&name(".last"))?;
+                sizes.push(last);
+                return Ok(sizes);
+            }
+        }
+    }
+}
+
+/// The first bytes of a part's content.
+fn begin(slide: &Package, part: &[u8]) -> Result<String, Refusal> {
+    let mut out = [0; 48];
+    let length = slide.read_part(part, 0, &mut out)?;
+    Ok(out[..length].escape_ascii().to_string())
+}
+
+fn media_type(slide: &Package, part: &[u8]) -> Result<String, Refusal> {
+    let mut out = [0; 127];
+    match slide.media_type(part, &mut out) {
+        Ok(length) => Ok(text(&out[..length])),
+        Err(Refusal::NoMediaType) => Ok("no type".to_string()),
+        Err(refusal) => Err(refusal),
+    }
+}
+
+/// Where each link leads.
+fn show_links(links: &[Link]) {
+    println!("\n{} links", links.len());
+    for link in links {
+        let leads = leads_to(link).unwrap_or_else(|refusal| refusal.to_string());
+        println!("  {} {} -> {leads}", text(link.source), text(link.id));
+    }
+}
+
+/// The pack IRI of an internal target, or the IRI of an external one.
+fn leads_to(link: &Link) -> Result<String, Refusal> {
+    let mut out = [0; 1027];
+    let length = match link.mode {
+        Mode::Internal => {
+            let mut path = [0; 255];
+            let length = resolve_target(link.source, link.target, &mut path)?;
+            compose_pack_iri(BASE, &path[..length], &mut out)?
+        }
+        Mode::External => resolve_reference(BASE, link.target, &mut out)?,
+    };
+    Ok(text(&out[..length]))
+}
+
+fn lines(file: &[u8]) -> impl Iterator<Item = &[u8]> {
+    let lines = file.split(|&byte| byte == b'\n');
+    lines.filter(|line| !line.is_empty())
+}
+
+fn text(bytes: &[u8]) -> String {
+    String::from_utf8_lossy(bytes).into_owned()
+}
