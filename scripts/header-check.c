@@ -27,6 +27,7 @@ int main(void)
     uint8_t out[64];
     opc_reply reply;
 
+    CHECK(sizeof(opc_reply) == 40);
     CHECK(opc_is_part_name(TEXT("/tiles/t3.tiff")));
     CHECK(!opc_is_part_name(TEXT("/tiles/")));
     CHECK(opc_is_equivalent(TEXT("/Tiles"), TEXT("/tIles")));
