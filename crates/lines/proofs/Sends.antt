@@ -92,6 +92,14 @@ sent-row o o₁ o₂ o₃ o₄ o₅ name t p b m₁ m₂ m₃ m₄ m₅ l₁ l�
         ≡ (x ++ (ascii " " ++ (y ++ ascii " "))) ++ (name ++ (ascii " " ++ (z ++ ascii "\n")))
     regroup x y z = simp append-assoc
 
+-- of a name of 255 bytes at most, and a type of 127
+pub row-length : (p b : ℕ) (name t : Bytes) → length name ≤ 255 → length t ≤ 127 → length (row p b name (typeGiven t)) ≤ 398
+row-length p b name t h k =
+    go (column 4 p) (column 8 b) (typeOrDash (typeGiven t)) (column-length 4 p (omega arith)) (column-length 8 b (omega arith)) (type-length t k)
+  where
+    go : (x y z : Bytes) → length x ≡ 4 → length y ≡ 8 → length z ≤ 127 → length (line (x ++ (ascii " " ++ (y ++ (ascii " " ++ (name ++ (ascii " " ++ z))))))) ≤ 398
+    go x y z e f g = simp length-append (omega arith)
+
 module _ (p b : ℕ) (name t : Bytes) where
   pub row-name : 255 < length name → rowOutcome p b name t ≡ No 4
   row-name h = rw (lt-leb (length name) 255 h)

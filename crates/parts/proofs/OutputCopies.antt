@@ -1,6 +1,6 @@
--- What is copied to an output: a text, the rest of a text, the content of a run of items.
+-- What is copied to an output: a text, the rest of a text, the content of a run of items; and how long that is.
 -- Assumes nothing.
-use Prim.Native.Nat.{ℕ, suc, _+_, _-_, _≤_, _<_, min}
+use Prim.Native.Nat.{ℕ, suc, _+_, _-_, _^_, _≤_, _<_, min}
 use mathlib.Core.Path.{_≡_, refl, ap, sym, _∙_, subst}
 use mathlib.Core.Bool.{Bool, true, false}
 use mathlib.Core.List.{List, [], _∷_, _++_, append-assoc}
@@ -8,7 +8,7 @@ use native.Mathlib.Nat.{zero-add}
 use native.Mathlib.Omega.{arith}
 use native.Mathlib.Numerals.{add-one}
 use lib.Dec.{leb}
-use lib.ListN.{length, getD, take, drop, length-take, length-drop, drop-of-length-le}
+use lib.ListN.{length, getD, take, drop, length-take, length-drop, length-append, drop-of-length-le}
 use lib.Seq.{take-all, take-nil, drop-nil, drop-cons}
 use borrow.Author.Tests.{leb-true, leb-false}
 use Rattle.iri.specs.Answers.{answer, written, Text}
@@ -25,7 +25,7 @@ use Rattle.store.specs.Packages.{Sound}
 use Rattle.contract.specs.Holds.{Holds}
 use Rattle.contract.proofs.ItemRows.{noItem, items-le, item-bytes}
 use Rattle.parts.specs.Runs.{run}
-use Rattle.parts.specs.Copies.{taken, Copying, Copied}
+use Rattle.parts.specs.Copies.{taken, Copying, Copied, Measuring, Measured}
 
 -- A WHOLE TEXT
 module _ (s out : List ℕ) where
@@ -57,7 +57,7 @@ module _ (out s : List ℕ) (at skip : ℕ) where
       }
 
 -- THE CONTENT OF A RUN
-run-cons : (xs : List Item) (i t : ℕ) → i < t → t ≤ length xs → run i t xs ≡ getD xs i noItem ∷ run (i + 1) t xs
+pub run-cons : (xs : List Item) (i t : ℕ) → i < t → t ≤ length xs → run i t xs ≡ getD xs i noItem ∷ run (i + 1) t xs
 run-cons xs i t l h =
     let k : t - i ≡ suc (t - suc i) = omega arith in
     rw (k, drop-cons xs i noItem (omega arith), add-one i)
@@ -105,3 +105,29 @@ module _ (b : List ℕ) (f t offset : ℕ) (out : List ℕ) where
     pub copied-end : t ≤ i → Copied b f t offset out at out'
     unfolding content joined
     copied-end l = all-copied (λ S. let z : t - i ≡ 0 = omega arith in rw (z, drop-nil skip, take-nil (length out - at)))
+
+-- HOW LONG IT IS
+module _ (b : List ℕ) (f t : ℕ) where
+  pub measuring-begin : Measuring b f t f 0
+  measuring-begin = record { few = omega arith; is = λ S h l. omega arith }
+
+  module _ (i n : ℕ) (w : Measuring b f t i n) where
+    pub measuring-more : i < t → (piece : List ℕ) → length piece < 2 ^ 32 → (Sound b → i < countOf b → piece ≡ fieldOf (rowAt b i) 2) → Measuring b f t (i + 1) (n + length piece)
+    unfolding content joined
+    measuring-more l piece k ep = record {
+      few = omega (arith, w .few);
+      is = λ S h m.
+          let p : piece ≡ getD (S .items) i noItem .bytes = ep (h .lies .sound) (omega (arith, items-le b S h)) ∙ item-bytes b S h i (omega arith) in
+          let e : length (content (run i t (S .items))) ≡ length piece + length (content (run (i + 1) t (S .items))) =
+              rw (run-cons (S .items) i t l m, ← p) (length-append piece (content (run (i + 1) t (S .items)))) in
+          omega (arith, w .is S h m);
+    }
+
+    pub measured-end : t ≤ i → Measured b f t n
+    unfolding content joined
+    measured-end l = record {
+      is = λ S h m.
+          let z : t - i ≡ 0 = omega arith in
+          let e : length (content (run i t (S .items))) ≡ 0 = rw z in
+          omega (arith, w .is S h m);
+    }

@@ -1,6 +1,6 @@
--- Copying the content of a run of items. These are promises of inner functions.
+-- Copying and measuring the content of a run of items. These are promises of inner functions.
 -- Assumes nothing.
-use Prim.Native.Nat.{ℕ, _-_, _≤_}
+use Prim.Native.Nat.{ℕ, _+_, _-_, _*_, _^_, _≤_}
 use mathlib.Core.Path.{_≡_}
 use mathlib.Core.List.{List, _++_}
 use lib.ListN.{length, take, drop}
@@ -23,3 +23,12 @@ pub record Copying (b : List ℕ) (f t offset : ℕ) (out : List ℕ) (i at skip
 -- all of them are copied
 pub record Copied (b : List ℕ) (f t offset : ℕ) (out : List ℕ) (n : ℕ) (out' : List ℕ) : Type 0 where
   pub is : (S : State) → Holds b S → t ≤ length (S .items) → Sent out 0 (taken S f t offset (length out)) n out'
+
+-- the rows from f to i hold n bytes together
+pub record Measuring (b : List ℕ) (f t i n : ℕ) : Type 0 where
+  pub few : n ≤ i * 2 ^ 32
+  pub is : (S : State) → Holds b S → t ≤ length (S .items) → length (content (run f t (S .items))) ≡ n + length (content (run i t (S .items)))
+
+-- the rows from f to t do
+pub record Measured (b : List ℕ) (f t n : ℕ) : Type 0 where
+  pub is : (S : State) → Holds b S → t ≤ length (S .items) → n ≡ length (content (run f t (S .items)))

@@ -7,11 +7,12 @@ use names::parts::is_part_name;
 use store::header::is_package;
 use store::rows::field;
 ghost use mathlib.Core.Path.{_≡_};
-ghost use Prim.Native.Nat.{_-_};
+ghost use Prim.Native.Nat.{_-_, _≤_};
 ghost use Rattle.iri.specs.Answers.{ofWritten};
 ghost use Rattle.model.specs.Calls.{Call, Print};
+ghost use Rattle.store.specs.Layout.{slotCount};
 ghost use Rattle.contract.specs.Ran.{Ran};
-ghost use Rattle.parts.specs.Copies.{Copied};
+ghost use Rattle.parts.specs.Copies.{Copied, Measured};
 
 // What is still to be skipped behind n bytes.
 fn skip_past(skip: u64, n: usize) -> u64
@@ -40,6 +41,20 @@ fn copy_content(pkg: &[u8], from: usize, to: usize, offset: u64, out: &mut [u8])
         i += 1;
     }
     at
+}
+
+// How many bytes the items in these rows hold together.
+pub fn content_length(pkg: &[u8], from: usize, to: usize) -> usize
+    requires { ⌜ to ≤ slotCount ⌝ }
+    ensures { λ r. ⌜ Measured (now (pkg .entry)) from to r ⌝ }
+{
+    let mut n = 0;
+    let mut i = from;
+    while i < to {
+        n += field(pkg, i, 2).len();
+        i += 1;
+    }
+    n
 }
 
 // The content of a part from an offset on, as much as the output takes.

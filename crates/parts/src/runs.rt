@@ -15,7 +15,7 @@ pub struct Run {
 }
 
 // How many items there are: their rows are those before the least key of the next set.
-pub(crate) fn count_items(pkg: &[u8]) -> usize
+pub fn count_items(pkg: &[u8]) -> usize
     requires { ⌜ Shape (now pkg) ⌝ }
     ensures { λ r. ⌜ Counted (now (pkg .entry)) r ⌝ }
 {
@@ -23,7 +23,7 @@ pub(crate) fn count_items(pkg: &[u8]) -> usize
 }
 
 // Where the items of the group p that stand side by side from row i on end, before row n.
-pub(crate) fn group_end(pkg: &[u8], i: usize, n: usize, p: &[u8]) -> usize
+pub fn group_end(pkg: &[u8], i: usize, n: usize, p: &[u8]) -> usize
     ensures { λ r. ⌜ Ended (now (pkg .entry)) i n (now (p .entry)) r ⌝ }
 {
     let mut e = i;
@@ -37,7 +37,7 @@ pub(crate) fn group_end(pkg: &[u8], i: usize, n: usize, p: &[u8]) -> usize
 }
 
 // Whether the rows of a group are a part. They stand by number, and a last mark stands above all other numbers: the last row tells.
-pub(crate) fn makes_part(pkg: &[u8], from: usize, to: usize) -> bool
+pub fn makes_part(pkg: &[u8], from: usize, to: usize) -> bool
     requires { ⌜ to ≤ slotCount ⌝ }
     ensures { λ r. ⌜ Judged (now (pkg .entry)) from to r ⌝ }
 {

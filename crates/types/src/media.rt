@@ -15,7 +15,7 @@ ghost use Rattle.contract.specs.Ran.{Ran};
 ghost use Rattle.types.specs.TypeRows.{Typed};
 
 // The row of a name's Override, else that of the Default of its extension; the number of rows if it has neither.
-fn type_row(pkg: &[u8], name: &[u8]) -> usize
+pub fn type_row(pkg: &[u8], name: &[u8]) -> usize
     requires { ⌜ Shape (now pkg) ⌝ }
     ensures { λ r. ⌜ Typed (now (pkg .entry)) (now (name .entry)) r ⌝ }
 {
