@@ -1,0 +1,87 @@
+-- How long the fields of a good package are that a listing shows.
+-- Assumes nothing.
+use Prim.Native.Nat.{ℕ, _+_, _≤_, _<_}
+use mathlib.Core.Path.{_≡_, refl, ap, sym, _∙_, subst}
+use mathlib.Core.Bool.{Bool, true, false, not, _&&_, cond}
+use mathlib.Core.List.{List, [], _∷_}
+use mathlib.Core.Option.{Option, none, some}
+use native.Mathlib.Omega.{arith}
+use lib.Dec.{leb, eqb}
+use lib.ListN.{length, getD, take, drop}
+use borrow.Author.Tests.{leb-true, ne-eqb}
+use Rattle.chars.specs.Bytes.{slash, within}
+use Rattle.chars.specs.Lists.{indexOf}
+use Rattle.chars.proofs.Bools.{and-left, and-right}
+use Rattle.names.specs.Names.{partName, reserved, extensionAt}
+use Rattle.names.specs.Types.{mediaType, extension, token}
+use Rattle.iri.proofs.Judging.{name-few}
+use Rattle.model.specs.Sets.{Bytes, Key, sameKey, lookup, Each}
+use Rattle.model.specs.Fields.{when, first, prefixOf, defaultFields, overrideFields}
+use Rattle.model.specs.Package.{Item, Default, Override, State, nameKey, keyOfDefault, keyOfOverride, extensionOf, defaultFor, typeOf, typeOfDefault, mediaTypeOf}
+use Rattle.model.specs.Good.{Good, fieldsOfItem, fieldsOfDefault, fieldsOfOverride}
+use Rattle.model.proofs.Lists.{each-at}
+use Rattle.model.proofs.Lookups.{none-some, some-eq}
+use Rattle.model.proofs.ItemNames.{accepted-prefix}
+use Rattle.contract.proofs.ItemRows.{noItem}
+
+-- the prefix of a held item
+pub prefix-few : (S : State) → Good S → (i : ℕ) → i < length (S .items) → length (prefixOf (getD (S .items) i noItem .name)) ≤ 255
+prefix-few S g i l =
+    let x = getD (S .items) i noItem in
+    name-few (prefixOf (x .name)) (accepted-prefix (x .name) (each-at (λ (y : Item). fieldsOfItem y ≡ 0) (S .items) i noItem l (g .items .fielded)) .0)
+
+-- a media type
+abbrev Sized : Bytes → Type 0
+Sized t = (0 < length t) × (length t ≤ 127)
+
+media-size : (t : Bytes) → mediaType t ≡ true → Sized t
+unfolding mediaType
+media-size t e =
+    let w = within 3 127 (length t) in
+    let a = token (take (indexOf slash t) t) in
+    let b = and-left w a (and-left (w && a) (token (drop (indexOf slash t + 1) t)) e) in
+    (omega (arith, leb-true 3 (length t) (and-left (leb 3 (length t)) (leb (length t) 127) b)), leb-true (length t) 127 (and-right (leb 3 (length t)) (leb (length t) 127) b))
+
+-- the second of two fields that are both accepted is a media type
+second-field : (y z : Bool) (n : ℕ) → 0 < n → first (when (not y) n ∷ when (not z) 7 ∷ []) ≡ 0 → z ≡ true
+unfolding first
+second-field y true n l e = refl
+second-field true false n l e = absurd (omega arith)
+second-field false false n l e = absurd (omega (arith, rw (ne-eqb n 0 (λ z. omega arith)) at e))
+
+-- what is found is one of the entries
+lookup-each : {E : Type 0} (P : E → Type 0) (key : E → Key) (k : Key) (xs : List E) (x : E) → Each P xs → lookup key k xs ≡ some x → P x
+unfolding lookup
+lookup-each P key k [] x h e = absurd (none-some x e)
+lookup-each P key k (y ∷ ys) x h e = go (sameKey k (key y)) (λ f. lookup-each P key k ys x (h .1) f) e
+  where
+    go : (t : Bool) → (lookup key k ys ≡ some x → P x) → cond t (some y) (lookup key k ys) ≡ some x → P x
+    go true ih e = subst P (some-eq y x e) (h .0)
+    go false ih e = ih e
+
+default-size : (d : Default) → fieldsOfDefault d ≡ 0 → Sized (d .type)
+unfolding defaultFields
+default-size d e = media-size (d .type) (second-field (extension (d .extension)) (mediaType (d .type)) 7 (omega arith) e)
+
+override-size : (o : Override) → fieldsOfOverride o ≡ 0 → Sized (o .type)
+unfolding overrideFields
+override-size o e = media-size (o .type) (second-field (partName (o .name)) (mediaType (o .type)) 4 (omega arith) e)
+
+-- the media type of a name
+pub type-size : (S : State) → Good S → (name t : Bytes) → mediaTypeOf name S ≡ some t → Sized t
+unfolding mediaTypeOf
+type-size S g name t = by-override (lookup keyOfOverride (nameKey name) (S .overrides)) refl
+  where
+    by-default : (o : Option Default) → defaultFor name (S .defaults) ≡ o → typeOfDefault o ≡ some t → Sized t
+    by-default none e f = absurd (none-some t f)
+    by-default (some d) e f = subst Sized (some-eq (d .type) t f) (default-size d (go (eqb (extensionAt name) 0) e))
+      where
+        go : (z : Bool) → cond z none (lookup keyOfDefault (nameKey (extensionOf name)) (S .defaults)) ≡ some d → fieldsOfDefault d ≡ 0
+        go true e = absurd (none-some d e)
+        go false e = lookup-each (λ (x : Default). fieldsOfDefault x ≡ 0) keyOfDefault (nameKey (extensionOf name)) (S .defaults) d (g .defaults .fielded) e
+
+    by-override : (o : Option Override) → lookup keyOfOverride (nameKey name) (S .overrides) ≡ o → typeOf o (defaultFor name (S .defaults)) ≡ some t → Sized t
+    by-override none e f = by-default (defaultFor name (S .defaults)) refl f
+    by-override (some o) e f =
+        subst Sized (some-eq (o .type) t f)
+        (override-size o (lookup-each (λ (x : Override). fieldsOfOverride x ≡ 0) keyOfOverride (nameKey name) (S .overrides) o (g .overrides .fielded) e))

@@ -1,0 +1,4 @@
+pub mod FieldSizes
+pub mod PartLines
+pub mod ListedParts
+pub mod LineRuns

@@ -1,0 +1,3 @@
+// The commands of the program `sheet`, run on a package.
+pub mod listing;
+pub mod running;

@@ -1,0 +1,78 @@
+// The listing of the parts: one walk over the items, group by group.
+use chars::numbers::smaller;
+use lines::printing::put_row;
+use parts::reading::content_length;
+use parts::runs::count_items;
+use parts::runs::group_end;
+use parts::runs::makes_part;
+use store::header::count;
+use store::rows::field;
+use types::media::type_row;
+ghost use Prim.Native.Nat.{_≤_, _<_};
+ghost use Rattle.store.specs.Layout.{slotCount};
+ghost use Rattle.store.specs.Packages.{Shape};
+ghost use Rattle.commands.specs.Listings.{ShortField, TypeText, PartSent, GroupSent, Listed};
+
+// Field j of row i; no bytes where it has more than `most`.
+fn short_field(pkg: &[u8], i: usize, j: usize, most: usize) -> &[u8]
+    ensures { λ r. ⌜ ShortField (now (pkg .entry)) i j most (now r) ⌝ }
+{
+    let s = field(pkg, i, j);
+    if most < s.len() {
+        return &pkg[0..0];
+    }
+    s
+}
+
+// The media type of a name; no bytes where it has none.
+fn type_of<'a>(pkg: &'a [u8], name: &[u8]) -> &'a [u8]
+    requires { ⌜ Shape (now pkg) ⌝ }
+    ensures { λ r. ⌜ TypeText (now (pkg .entry)) (now (name .entry)) (now r) ⌝ }
+{
+    let r = type_row(pkg, name);
+    if r < count(pkg) {
+        return short_field(pkg, r, 1, 127);
+    }
+    &pkg[0..0]
+}
+
+// The line of the part in these rows. How many bytes it has.
+fn put_part(pkg: &[u8], from: usize, to: usize, out: &mut [u8]) -> usize
+    requires { ⌜ Shape (now pkg) ⌝ }
+    requires { ⌜ (from < to) × (to ≤ slotCount) ⌝ }
+    ensures { λ r. ⌜ PartSent (now (pkg .entry)) from to (now (out .entry)) r (now (out .exit)) ⌝ }
+{
+    let name = short_field(pkg, from, 0, 255);
+    let kind = type_of(pkg, name);
+    let bytes = content_length(pkg, from, to);
+    put_row(to - from, bytes, name, kind, out)
+}
+
+// The line of the group in these rows at place `at` of the output, if the group is a part. The place behind it.
+fn put_group(pkg: &[u8], from: usize, to: usize, out: &mut [u8], at: usize) -> usize
+    requires { ⌜ Shape (now pkg) ⌝ }
+    requires { ⌜ (from < to) × (to ≤ slotCount) × (at ≤ 1000000) ⌝ }
+    ensures { λ r. ⌜ GroupSent (now (pkg .entry)) from to (now (out .entry)) at r (now (out .exit)) ⌝ }
+{
+    if !makes_part(pkg, from, to) {
+        return at;
+    }
+    let k = smaller(at, out.len());
+    at + put_part(pkg, from, to, &mut out[k..])
+}
+
+// The lines of all parts. How many bytes they have.
+pub fn put_listing(pkg: &[u8], out: &mut [u8]) -> usize
+    requires { ⌜ Shape (now pkg) ⌝ }
+    ensures { λ r. ⌜ Listed (now (pkg .entry)) (now (out .entry)) r (now (out .exit)) ⌝ }
+{
+    let n = count_items(pkg);
+    let mut row = 0;
+    let mut at = 0;
+    while row < n {
+        let end = group_end(pkg, row + 1, n, field(pkg, row, 0));
+        at = put_group(pkg, row, end, out, at);
+        row = end;
+    }
+    at
+}
