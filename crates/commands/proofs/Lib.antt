@@ -2,3 +2,5 @@ pub mod FieldSizes
 pub mod PartLines
 pub mod ListedParts
 pub mod LineRuns
+pub mod ShownSizes
+pub mod FedLines

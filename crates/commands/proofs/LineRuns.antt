@@ -3,11 +3,11 @@
 use Prim.Native.Nat.{ℕ, _-_, _≤_}
 use mathlib.Core.Path.{_≡_, refl, ap, sym, _∙_, subst}
 use mathlib.Core.Bool.{Bool, true, false, not, true≢false}
+use native.Mathlib.Omega.{arith}
 use lib.ListN.{length, take, drop}
 use Rattle.chars.proofs.Searches.{take-rest}
 use Rattle.iri.specs.Answers.{Answer}
 use Rattle.iri.specs.Scratch.{Sent}
-use Rattle.iri.proofs.Sending.{sent-as}
 use Rattle.model.specs.Sets.{Bytes}
 use Rattle.model.specs.Package.{State}
 use Rattle.model.specs.Calls.{Change, change, Changes}
@@ -18,6 +18,7 @@ use Rattle.contract.specs.Ran.{Ran}
 use Rattle.contract.proofs.Rans.{is-package, closed}
 use Rattle.lines.specs.Reading.{Parsed}
 use Rattle.lines.specs.declared.parsing.Command.{Command}
+use Rattle.lines.proofs.Sends.{answer-length}
 use Rattle.commands.specs.Listings.{Listed}
 use Rattle.commands.specs.Running.{Numbered, LineRun}
 
@@ -33,8 +34,11 @@ pub numbered-rest : (f : Bytes → Change) (l p : Bytes) (a : Answer) (q : Bytes
 numbered-rest f l p a q n i r e = numbered (f (drop i l)) p a q n (subst (λ (s : Bytes). Ran (Changes (f s)) p a q) (take-rest l i) r) e
 
 -- A LISTING of what is no package is free
-pub listed-foreign : (p : Bytes) (z : Bool) → z ≡ isPackage p → not z ≡ true → (out : Bytes) (n : ℕ) (out' : Bytes) → Listed p out n out'
-listed-foreign p z e t out n out' = record { is = λ S h. absurd (true≢false (sym (is-package p S h) ∙ closed p z e t)) }
+pub listed-foreign : (p : Bytes) (z : Bool) → z ≡ isPackage p → not z ≡ true → (k : ℕ) (out : Bytes) (n : ℕ) (out' : Bytes) → Sent out 0 (numberLine k) n out' → Listed p out n out'
+listed-foreign p z e t k out n out' s = record {
+  few = omega (arith, s .next-is, answer-length k);
+  is = λ S h. absurd (true≢false (sym (is-package p S h) ∙ closed p z e t));
+}
 
 -- A LINE that reads as a command d
 pub parsed-as : (l : Bytes) (r d : Command) → Parsed l r → r ≡ d → Parsed l d
@@ -46,10 +50,12 @@ module _ (p l out : Bytes) (n : ℕ) (out' : Bytes) where
     shows = λ S h. subst (λ (x : Line). Sent out 0 (shownBy S x .0) n out') e (subst (λ (m : ℕ). Sent out 0 (numberLine m) n out') (d .is S h .0) s);
     holds = λ S h. subst (λ (x : Line). Holds q (shownBy S x .1)) e (d .is S h .1);
     size = d .size;
+    few = omega (arith, s .next-is, answer-length k);
   }
 
   pub line-lists : Lists ≡ lineRead l → Listed p out n out' → LineRun p l out n p out'
   line-lists e d = record {
+    few = d .few;
     shows = λ S h. subst (λ (x : Line). Sent out 0 (shownBy S x .0) n out') e (d .is S h);
     holds = λ S h. subst (λ (x : Line). Holds p (shownBy S x .1)) e h;
     size = refl;
@@ -57,6 +63,7 @@ module _ (p l out : Bytes) (n : ℕ) (out' : Bytes) where
 
   pub line-unreadable : Unreadable ≡ lineRead l → Sent out 0 (numberLine 16) n out' → LineRun p l out n p out'
   line-unreadable e s = record {
+    few = omega (arith, s .next-is, answer-length 16);
     shows = λ S h. subst (λ (x : Line). Sent out 0 (shownBy S x .0) n out') e s;
     holds = λ S h. subst (λ (x : Line). Holds p (shownBy S x .1)) e h;
     size = refl;

@@ -59,6 +59,7 @@ module _ (b : Bytes) (n : ℕ) (out : Bytes) where
     pub listed-end : n ≤ i → Counted b n → Listed b out at out'
     unfolding joined
     listed-end l c = record {
+      few = omega (arith, w .few, w .within, c .few);
       is = λ S h.
           let v = w .is S h (c .is S h) in
           let z : parts (drop i (S .items)) ≡ [] = ap parts (drop-of-length-le (S .items) {i = i} (omega (arith, c .is S h))) ∙ parts-none in

@@ -27,7 +27,7 @@ use Rattle.parts.specs.Copies.{Measured}
 use Rattle.parts.proofs.OutputCopies.{run-cons}
 use Rattle.types.specs.TypeRows.{Typed}
 use Rattle.lines.specs.Printing.{typeGiven, row}
-use Rattle.lines.proofs.Sends.{part-line, type-given, row-length}
+use Rattle.lines.proofs.Sends.{part-line, type-given, type-length, row-length}
 use Rattle.commands.specs.Listings.{ShortField, TypeText, PartSent, GroupSent}
 use Rattle.commands.proofs.FieldSizes.{prefix-few, type-size}
 
@@ -78,7 +78,7 @@ module _ (b : Bytes) (f t : ℕ) (l : f < t) where
 
     pub part-sent : (out : Bytes) (n : ℕ) (out' : Bytes) → Sent out 0 (row (t - f) k name (typeGiven kind)) n out' → PartSent b f t out n out'
     part-sent out n out' s = record {
-      few = omega (arith, s .next-is, row-length (t - f) k name kind (en .few) (ek .few));
+      few = omega (arith, s .next-is, row-length (t - f) k name (typeGiven kind) (en .few) (type-length kind (ek .few)));
       is = λ S h m. sent-as out out' (row (t - f) k name (typeGiven kind)) (partLine S (run f t (S .items))) 0 n (part-row S h m) s;
     }
 

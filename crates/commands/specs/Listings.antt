@@ -52,4 +52,5 @@ pub record Listing (b : Bytes) (n i : ℕ) (out : Bytes) (at : ℕ) (out' : Byte
 
 -- all lines were sent
 pub record Listed (b out : Bytes) (n : ℕ) (out' : Bytes) : Type 0 where
+  pub few : n ≤ 254720
   pub is : (S : State) → Holds b S → Sent out 0 (listing S) n out'

@@ -1,6 +1,6 @@
 -- What a line does, on the bytes of a package and of an output.
 -- Assumes nothing.
-use Prim.Native.Nat.{ℕ}
+use Prim.Native.Nat.{ℕ, _≤_}
 use mathlib.Core.Path.{_≡_}
 use lib.ListN.{length}
 use Rattle.iri.specs.Scratch.{Sent}
@@ -21,5 +21,7 @@ pub record LineRun (p l out : Bytes) (n : ℕ) (p' out' : Bytes) : Type 0 where
   pub shows : (S : State) → Holds p S → Sent out 0 (shownBy S (lineRead l) .0) n out'
   -- and the bytes hold the package after the line
   pub holds : (S : State) → Holds p S → Holds p' (shownBy S (lineRead l) .1)
+  -- a bound for every buffer
+  pub few : n ≤ 254720
   -- the lent bytes keep their number
   pub size : length p' ≡ length p

@@ -3,7 +3,7 @@
 use Prim.Native.Nat.{ℕ, suc, _+_, _-_, _/_, _%_, _≤_, _<_}
 use mathlib.Core.Path.{_≡_, refl, sym, ap, _∙_}
 use mathlib.Core.List.{List, [], _∷_, _++_, append-assoc}
-use mathlib.Core.Option.{some}
+use mathlib.Core.Option.{Option, some}
 use native.Mathlib.Omega.{arith}
 use lib.ListN.{length, length-append}
 use borrow.Author.Tests.{eq-eqb, ne-eqb, lt-leb, le-leb}
@@ -14,7 +14,7 @@ use Rattle.iri.proofs.Sending.{sent-none, sent-more, sent-as}
 use Rattle.model.specs.Sets.{Bytes}
 use Rattle.model.specs.Texts.{line}
 use Rattle.model.specs.Package.{State, Item, content, spelling, mediaTypeOf}
-use Rattle.model.specs.Sheet.{column, typeOrDash, partLine}
+use Rattle.model.specs.Sheet.{column, numberLine, typeOrDash, partLine}
 use Rattle.lines.specs.Printing.{padded, cellOf, typeGiven, counts, row, rowOutcome}
 use Rattle.lines.proofs.Columns.{column-suc, padded-suc, padded-length, padded-none, column-length}
 
@@ -92,13 +92,19 @@ sent-row o o₁ o₂ o₃ o₄ o₅ name t p b m₁ m₂ m₃ m₄ m₅ l₁ l�
         ≡ (x ++ (ascii " " ++ (y ++ ascii " "))) ++ (name ++ (ascii " " ++ (z ++ ascii "\n")))
     regroup x y z = simp append-assoc
 
--- of a name of 255 bytes at most, and a type of 127
-pub row-length : (p b : ℕ) (name t : Bytes) → length name ≤ 255 → length t ≤ 127 → length (row p b name (typeGiven t)) ≤ 398
-row-length p b name t h k =
-    go (column 4 p) (column 8 b) (typeOrDash (typeGiven t)) (column-length 4 p (omega arith)) (column-length 8 b (omega arith)) (type-length t k)
+-- how long it is, of a name of 255 bytes at most and a type of 127
+pub row-length : (p b : ℕ) (name : Bytes) (o : Option Bytes) → length name ≤ 255 → length (typeOrDash o) ≤ 127 → length (row p b name o) ≤ 398
+row-length p b name o h k = go (column 4 p) (column 8 b) (typeOrDash o) (column-length 4 p (omega arith)) (column-length 8 b (omega arith)) k
   where
     go : (x y z : Bytes) → length x ≡ 4 → length y ≡ 8 → length z ≤ 127 → length (line (x ++ (ascii " " ++ (y ++ (ascii " " ++ (name ++ (ascii " " ++ z))))))) ≤ 398
     go x y z e f g = simp length-append (omega arith)
+
+-- and how long the line of an answer is
+pub answer-length : (n : ℕ) → length (numberLine n) ≡ 4
+answer-length n = go (column 3 n) (column-length 3 n (omega arith))
+  where
+    go : (x : Bytes) → length x ≡ 3 → length (line x) ≡ 4
+    go x e = simp length-append (omega arith)
 
 module _ (p b : ℕ) (name t : Bytes) where
   pub row-name : 255 < length name → rowOutcome p b name t ≡ No 4

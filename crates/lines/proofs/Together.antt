@@ -25,7 +25,7 @@ take-min k i d = go (leb k i) refl
         let l = leb-false k i e in
         take-all k (take i d) (omega (arith, length-take i d)) ∙ ap (λ (m : ℕ). take m d) (let z : i ≡ min i k = omega arith in z)
 
-take-had : (n : ℕ) (l : List ℕ) → take n l ≡ take (min n (length l)) l
+pub take-had : (n : ℕ) (l : List ℕ) → take n l ≡ take (min n (length l)) l
 take-had n l = ap (take n) (sym (take-length l)) ∙ take-min n (length l) l ∙ ap (λ (m : ℕ). take m l) (let z : min (length l) n ≡ min n (length l) = omega arith in z)
 
 -- `had` bytes were there; the piece has bytes up to `at`, and `more` of them fit

@@ -14,7 +14,7 @@ same-length : tie.Need-same-length
 same-length c = search needs
 
 returns : tie.Need-returns
-returns c = listed-foreign _ _ (c .before .before .before .before .before .is-package .ensures) (c .before .before .before .before .if1 .taken) _ _ _
+returns c = listed-foreign _ _ (c .before .before .before .before .before .is-package .ensures) (c .before .before .before .before .if1 .taken) 1 _ _ _ (c .before .before .put-answer .ensures)
 
 put-listing-requires : tie.Need-put-listing-requires
 put-listing-requires c κs = opened-shape _ _ (c .before .before .is-package .ensures) (c .before .if1 .left)
