@@ -1,0 +1,75 @@
+-- What the program prints is document 01's; and what it may count on between two lines.
+-- Assumes nothing.
+use Prim.Native.Nat.{ℕ, _+_, _≤_, _<_}
+use mathlib.Core.Path.{_≡_, refl, ap, sym, _∙_}
+use mathlib.Core.Bool.{false, _||_}
+use mathlib.Core.List.{[], _++_, append-nil}
+use native.Mathlib.Omega.{arith}
+use lib.Dec.{ltb}
+use lib.ListN.{length, take, drop}
+use borrow.Author.Tests.{le-ltb}
+use Rattle.chars.specs.Lists.{firstOf}
+use Rattle.iri.specs.Answers.{Answer}
+use Rattle.model.specs.Sets.{Bytes}
+use Rattle.model.specs.Fields.{when}
+use Rattle.model.specs.Package.{State, empty}
+use Rattle.model.specs.Calls.{Start, overhead, capacityLimit, startRefusal}
+use Rattle.model.specs.Sheet.{linesOf, shown, sheet}
+use Rattle.contract.specs.Holds.{Holds}
+use Rattle.contract.specs.Ran.{Ran}
+use Rattle.lines.specs.Gathering.{Open}
+use Rattle.commands.specs.Feeding.{mostShown, rest, Round, Feeds, Ends}
+use Rattle.commands.specs.Sessions.{sheetCapacity, Ready, Session, ended, fed, EverySession}
+
+-- THE START
+start-accepted : (n : ℕ) → sheetCapacity + overhead ≤ n → startRefusal n sheetCapacity ≡ 0
+unfolding startRefusal
+start-accepted n l = rw (le-ltb n (sheetCapacity + overhead) l)
+
+started-holds : (o p : Bytes) (a : Answer) → sheetCapacity + overhead ≤ length o → Ran (Start sheetCapacity) o a p → Holds p (empty sheetCapacity)
+started-holds o p a l r = r .begun .0 (start-accepted (length o) l) .1
+
+open-none : (l : Bytes) → Open (take 0 l)
+unfolding firstOf
+open-none l = refl
+
+-- BETWEEN TWO LINES
+pub ready-begin : (o p : Bytes) (a : Answer) (line out : Bytes) → sheetCapacity + overhead ≤ length o → Ran (Start sheetCapacity) o a p → 1024 < length line → mostShown ≤ length out
+    → Ready p line 0 out
+ready-begin o p a line out l r w m = record { state = empty sheetCapacity; holds = started-holds o p a l r; begun = open-none line; wide = w; room = m }
+
+module _ (p line : Bytes) (n : ℕ) (out : Bytes) (r : Ready p line n out) where
+  module _ (piece : Bytes) (from : ℕ) (inside : from ≤ length piece) (n' from' k : ℕ) (p' line' out' : Bytes) (f : Feeds p line n piece from out n' from' k p' line' out') where
+    turn : Round (r .state) line n piece from out n' from' k p' line' out'
+    turn = f .is (r .state) (r .holds) (r .wide) (r .begun) inside (r .room)
+
+    pub ready-fits : k ≤ length out
+    ready-fits = turn .fits
+
+    pub ready-more : length line' ≡ length line → length out' ≡ length out → Ready p' line' n' out'
+    ready-more l m = record { state = turn .after; holds = turn .holds; begun = turn .begun; wide = omega (arith, r .wide); room = omega (arith, r .room) }
+
+  pub ready-ends : (k : ℕ) (out' : Bytes) → Ends p line n out k out' → k ≤ length out
+  ready-ends k out' e = e .is (r .state) (r .holds) (r .begun) (r .room) .0
+
+  -- buffers that are as long
+  pub ready-kept : (line' out' : Bytes) → line' ≡ line → length out' ≡ length out → Ready p line' n out'
+  ready-kept line' out' e m = record {
+    state = r .state;
+    holds = r .holds;
+    begun = rw e (r .begun);
+    wide = omega (arith, r .wide, ap length e);
+    room = omega (arith, r .room);
+  }
+
+-- THE WHOLE RUN
+from-here : {p line input printed : Bytes} {n : ℕ} → Session p line n input printed → (S : State) → Holds p S → 1024 < length line → Open (take n line)
+    → shown S (linesOf (take n line ++ input)) ≡ printed
+from-here (ended {p} {line} {out} {out'} {n} {k} m e) S h w o = ap (λ (s : Bytes). shown S (linesOf s)) (append-nil (take n line)) ∙ e .is S h o m .1
+from-here (fed {p} {line} {piece} {out} {p'} {line'} {out'} {printed} {n} {from} {n'} {from'} {k} later i m l f s) S h w o =
+    let t : Round S line n piece from out n' from' k p' line' out' = f .is S h w o i m in
+    t .is later ∙ ap (λ (x : Bytes). take k out' ++ x) (from-here s (t .after) (t .holds) (omega arith) (t .begun))
+
+pub every-session : EverySession
+unfolding sheet
+every-session o p a line input printed l r w s = sym (from-here s (empty sheetCapacity) (started-holds o p a l r) w (open-none line))
