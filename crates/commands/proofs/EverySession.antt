@@ -1,25 +1,22 @@
 -- What the program prints is document 01's; and what it may count on between two lines.
 -- Assumes nothing.
 use Prim.Native.Nat.{ℕ, _+_, _≤_, _<_}
-use mathlib.Core.Path.{_≡_, refl, ap, sym, _∙_}
-use mathlib.Core.Bool.{false, _||_}
-use mathlib.Core.List.{[], _++_, append-nil}
+use mathlib.Core.Path.{_≡_, ap, sym, _∙_}
+use mathlib.Core.List.{_++_, append-nil}
 use native.Mathlib.Omega.{arith}
-use lib.Dec.{ltb}
-use lib.ListN.{length, take, drop}
+use lib.ListN.{length, take}
 use borrow.Author.Tests.{le-ltb}
-use Rattle.chars.specs.Lists.{firstOf}
 use Rattle.iri.specs.Answers.{Answer}
 use Rattle.model.specs.Sets.{Bytes}
-use Rattle.model.specs.Fields.{when}
 use Rattle.model.specs.Package.{State, empty}
-use Rattle.model.specs.Calls.{Start, overhead, capacityLimit, startRefusal}
+use Rattle.model.specs.Calls.{Start, overhead, startRefusal}
 use Rattle.model.specs.Sheet.{linesOf, shown, sheet}
 use Rattle.contract.specs.Holds.{Holds}
 use Rattle.contract.specs.Ran.{Ran}
 use Rattle.lines.specs.Gathering.{Open}
-use Rattle.commands.specs.Feeding.{mostShown, rest, Round, Feeds, Ends}
+use Rattle.commands.specs.Feeding.{mostShown, Round, Feeds, Ends}
 use Rattle.commands.specs.Sessions.{sheetCapacity, Ready, Session, ended, fed, EverySession}
+use Rattle.commands.proofs.FedLines.{open-none}
 
 -- THE START
 start-accepted : (n : ℕ) → sheetCapacity + overhead ≤ n → startRefusal n sheetCapacity ≡ 0
@@ -28,10 +25,6 @@ start-accepted n l = rw (le-ltb n (sheetCapacity + overhead) l)
 
 started-holds : (o p : Bytes) (a : Answer) → sheetCapacity + overhead ≤ length o → Ran (Start sheetCapacity) o a p → Holds p (empty sheetCapacity)
 started-holds o p a l r = r .begun .0 (start-accepted (length o) l) .1
-
-open-none : (l : Bytes) → Open (take 0 l)
-unfolding firstOf
-open-none l = refl
 
 -- BETWEEN TWO LINES
 pub ready-begin : (o p : Bytes) (a : Answer) (line out : Bytes) → sheetCapacity + overhead ≤ length o → Ran (Start sheetCapacity) o a p → 1024 < length line → mostShown ≤ length out
@@ -51,16 +44,6 @@ module _ (p line : Bytes) (n : ℕ) (out : Bytes) (r : Ready p line n out) where
 
   pub ready-ends : (k : ℕ) (out' : Bytes) → Ends p line n out k out' → k ≤ length out
   ready-ends k out' e = e .is (r .state) (r .holds) (r .begun) (r .room) .0
-
-  -- buffers that are as long
-  pub ready-kept : (line' out' : Bytes) → line' ≡ line → length out' ≡ length out → Ready p line' n out'
-  ready-kept line' out' e m = record {
-    state = r .state;
-    holds = r .holds;
-    begun = rw e (r .begun);
-    wide = omega (arith, r .wide, ap length e);
-    room = omega (arith, r .room);
-  }
 
 -- THE WHOLE RUN
 from-here : {p line input printed : Bytes} {n : ℕ} → Session p line n input printed → (S : State) → Holds p S → 1024 < length line → Open (take n line)

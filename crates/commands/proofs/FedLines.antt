@@ -1,15 +1,13 @@
 -- An input that comes in pieces, line by line: one law for each way out.
 -- Assumes nothing.
 use Prim.Native.Nat.{ℕ, _+_, _-_, _≤_, _<_, min}
-use mathlib.Core.Path.{_≡_, refl, ap, sym, _∙_, subst}
-use mathlib.Core.List.{List, [], _∷_, _++_, append-assoc}
-use native.Mathlib.Nat.{zero-add}
+use mathlib.Core.Path.{_≡_, refl, ap, sym, _∙_}
+use mathlib.Core.List.{[], _++_, append-assoc}
 use native.Mathlib.Omega.{arith}
 use lib.ListN.{length, take, drop, length-append, length-take, length-drop, drop-of-length-le}
 use lib.Seq.{length-take-le}
-use Rattle.chars.specs.Lists.{firstOf, indexOf}
+use Rattle.chars.specs.Lists.{firstOf}
 use Rattle.chars.proofs.Searches.{index-le}
-use Rattle.iri.specs.Scratch.{Sent}
 use Rattle.iri.proofs.Sending.{sent-none, sent-more, sent-text}
 use Rattle.model.specs.Sets.{Bytes}
 use Rattle.model.specs.Package.{State}
@@ -21,10 +19,11 @@ use Rattle.lines.proofs.Together.{take-had}
 use Rattle.lines.proofs.Pieces.{gathered-line, gathered-part, shown-end, shown-end-none}
 use Rattle.commands.specs.Running.{LineRun}
 use Rattle.commands.specs.Feeding.{mostShown, rest, Told, Steps, Feeding, Round, Feeds, Ends}
-use Rattle.commands.proofs.PartLines.{sent-rest}
+use Rattle.commands.proofs.SentRests.{sent-rest}
 use Rattle.commands.proofs.ShownSizes.{shown-length}
 
-open-none : (l : Bytes) → Open (take 0 l)
+-- no byte of a line is there yet
+pub open-none : (l : Bytes) → Open (take 0 l)
 unfolding firstOf
 open-none l = refl
 

@@ -1,7 +1,7 @@
 -- How long the fields of a good package are that a listing shows.
 -- Assumes nothing.
 use Prim.Native.Nat.{ℕ, _+_, _≤_, _<_}
-use mathlib.Core.Path.{_≡_, refl, ap, sym, _∙_, subst}
+use mathlib.Core.Path.{_≡_, refl, subst}
 use mathlib.Core.Bool.{Bool, true, false, not, _&&_, cond}
 use mathlib.Core.List.{List, [], _∷_}
 use mathlib.Core.Option.{Option, none, some}
@@ -12,7 +12,7 @@ use borrow.Author.Tests.{leb-true, ne-eqb}
 use Rattle.chars.specs.Bytes.{slash, within}
 use Rattle.chars.specs.Lists.{indexOf}
 use Rattle.chars.proofs.Bools.{and-left, and-right}
-use Rattle.names.specs.Names.{partName, reserved, extensionAt}
+use Rattle.names.specs.Names.{partName, extensionAt}
 use Rattle.names.specs.Types.{mediaType, extension, token}
 use Rattle.iri.proofs.Judging.{name-few}
 use Rattle.model.specs.Sets.{Bytes, Key, sameKey, lookup, Each}

@@ -1,4 +1,5 @@
 pub mod FieldSizes
+pub mod SentRests
 pub mod PartLines
 pub mod ListedParts
 pub mod LineRuns

@@ -1,6 +1,6 @@
 -- What a line does: one law for each way out.
 -- Assumes nothing.
-use Prim.Native.Nat.{ℕ, _-_, _≤_}
+use Prim.Native.Nat.{ℕ, _-_}
 use mathlib.Core.Path.{_≡_, refl, ap, sym, _∙_, subst}
 use mathlib.Core.Bool.{Bool, true, false, not, true≢false}
 use native.Mathlib.Omega.{arith}
@@ -9,8 +9,7 @@ use Rattle.chars.proofs.Searches.{take-rest}
 use Rattle.iri.specs.Answers.{Answer}
 use Rattle.iri.specs.Scratch.{Sent}
 use Rattle.model.specs.Sets.{Bytes}
-use Rattle.model.specs.Package.{State}
-use Rattle.model.specs.Calls.{Change, change, Changes}
+use Rattle.model.specs.Calls.{Change, Changes}
 use Rattle.model.specs.Sheet.{Line, Does, Lists, Unreadable, lineRead, numberLine, shownBy}
 use Rattle.store.specs.Packages.{isPackage}
 use Rattle.contract.specs.Holds.{Holds}

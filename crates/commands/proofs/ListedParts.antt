@@ -1,27 +1,21 @@
--- A walk over the groups sends the lines of the parts one after the other; how long they are together.
+-- A walk over the groups sends the lines of the parts one after the other.
 -- Assumes nothing.
-use Prim.Native.Nat.{ℕ, _+_, _*_, _≤_, _<_}
+use Prim.Native.Nat.{ℕ, _+_, _≤_, _<_}
 use mathlib.Core.Path.{_≡_, refl, ap, sym, _∙_}
 use mathlib.Core.Bool.{Bool, true, false, cond}
 use mathlib.Core.List.{List, [], _∷_, _++_, append-nil, append-assoc}
 use native.Mathlib.Omega.{arith}
-use lib.ListN.{length, drop, length-append, drop-of-length-le}
-use Rattle.iri.specs.Scratch.{Sent}
+use lib.ListN.{length, drop, drop-of-length-le}
 use Rattle.iri.proofs.Sending.{sent-none, sent-more, sent-as}
-use Rattle.model.specs.Sets.{Bytes, joined, those}
-use Rattle.model.specs.Package.{Item, State, leaders, parts}
+use Rattle.model.specs.Sets.{Bytes, joined}
+use Rattle.model.specs.Package.{Item, parts}
 use Rattle.model.specs.Sheet.{partLine, listing}
 use Rattle.store.specs.Layout.{countOf}
 use Rattle.store.specs.Rows.{rowAt, fieldOf}
 use Rattle.store.specs.Packages.{Sound}
-use Rattle.contract.specs.Holds.{Holds}
 use Rattle.parts.specs.Runs.{run, Counted, Ended}
-use Rattle.parts.proofs.PartWalks.{next-parts}
-use Rattle.commands.specs.Listings.{GroupSent, ListedTo, Listing, Listed}
-
-parts-none : parts [] ≡ []
-unfolding parts leaders those
-parts-none = refl
+use Rattle.parts.proofs.PartWalks.{parts-none, next-parts}
+use Rattle.commands.specs.Listings.{GroupSent, Listing, Listed}
 
 -- the line of one part more, or of none
 joined-next : (f : List Item → Bytes) (z : Bool) (g : List Item) (gs hs : List (List Item)) → gs ≡ cond z (g ∷ hs) hs → joined f gs ≡ cond z (f g) [] ++ joined f hs

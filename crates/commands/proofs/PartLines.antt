@@ -1,27 +1,24 @@
 -- The line of a part, by the rows of its group.
 -- Assumes nothing.
 use Prim.Native.Nat.{ℕ, _+_, _-_, _≤_, _<_, min}
-use mathlib.Core.Path.{_≡_, refl, ap, sym, _∙_}
+use mathlib.Core.Path.{_≡_, ap, sym, _∙_}
 use mathlib.Core.Bool.{Bool, true, false, not, cond}
-use mathlib.Core.List.{List, [], _∷_, _++_, append-nil}
-use mathlib.Core.Option.{Option, none, some}
-use native.Mathlib.Nat.{zero-add}
+use mathlib.Core.List.{[], _++_}
+use mathlib.Core.Option.{Option, some}
 use native.Mathlib.Omega.{arith}
-use lib.ListN.{length, getD, take, drop, length-drop, drop-of-length-le}
-use lib.Seq.{length-take-le, drop-drop}
+use lib.ListN.{length, take, drop, length-drop}
+use lib.Seq.{length-take-le}
 use borrow.Author.Tests.{not-true, not-false}
-use Rattle.chars.proofs.Searches.{take-rest}
 use Rattle.iri.specs.Scratch.{Sent}
 use Rattle.iri.proofs.Sending.{sent-none, sent-as}
 use Rattle.model.specs.Sets.{Bytes}
-use Rattle.model.specs.Fields.{prefixOf}
-use Rattle.model.specs.Package.{Item, State, content, spelling, mediaTypeOf}
+use Rattle.model.specs.Package.{State, content, spelling, mediaTypeOf}
 use Rattle.model.specs.Sheet.{partLine}
 use Rattle.store.specs.Layout.{countOf}
 use Rattle.store.specs.Rows.{rowAt, fieldOf}
 use Rattle.store.specs.Packages.{Sound}
 use Rattle.contract.specs.Holds.{Holds}
-use Rattle.contract.proofs.ItemRows.{noItem, items-le, item-prefix}
+use Rattle.contract.proofs.ItemRows.{items-le, item-prefix}
 use Rattle.parts.specs.Runs.{run, Judged}
 use Rattle.parts.specs.Copies.{Measured}
 use Rattle.parts.proofs.OutputCopies.{run-cons}
@@ -30,6 +27,7 @@ use Rattle.lines.specs.Printing.{typeGiven, row}
 use Rattle.lines.proofs.Sends.{part-line, type-given, type-length, row-length}
 use Rattle.commands.specs.Listings.{ShortField, TypeText, PartSent, GroupSent}
 use Rattle.commands.proofs.FieldSizes.{prefix-few, type-size}
+use Rattle.commands.proofs.SentRests.{sent-rest}
 
 -- A FIELD of at most so many bytes
 module _ (b : Bytes) (i j most : ℕ) (s : Bytes) (es : Sound b → i < countOf b → s ≡ fieldOf (rowAt b i) j) where
@@ -81,20 +79,6 @@ module _ (b : Bytes) (f t : ℕ) (l : f < t) where
       few = omega (arith, s .next-is, row-length (t - f) k name (typeGiven kind) (en .few) (type-length kind (ek .few)));
       is = λ S h m. sent-as out out' (row (t - f) k name (typeGiven kind)) (partLine S (run f t (S .items))) 0 n (part-row S h m) s;
     }
-
--- INTO THE REST of an output: what was sent to the part from k on was sent to place `at`
-pub sent-rest : (out text ys : Bytes) (at k n : ℕ) → k ≡ min at (length out) → Sent (take (length out - k) (drop k out)) 0 text n ys
-    → Sent out at text (at + n) (take k out ++ (ys ++ drop (length out - k) (drop k out)))
-sent-rest out text ys at k n ek s = record {
-  next-is = omega (arith, s .next-is);
-  fits = λ f.
-      let e : k ≡ at = omega arith in
-      let r : take (length out - k) (drop k out) ≡ drop at out = take-rest out k ∙ ap (λ (i : ℕ). drop i out) e in
-      let d : drop (length out - k) (drop k out) ≡ [] = drop-of-length-le (drop k out) {i = length out - k} (omega (arith, length-drop k out)) in
-      let y : ys ≡ text ++ drop (at + length text) out =
-          s .fits (rw (r, length-drop) (omega arith)) ∙ rw (r, zero-add (length text), drop-drop (length text) at out) in
-      rw (d, append-nil ys, y, e);
-}
 
 -- THE LINE OF A GROUP; z tells whether it is a part
 module _ (b : Bytes) (f t : ℕ) (z : Bool) (j : Judged b f t z) (out : Bytes) (at : ℕ) where

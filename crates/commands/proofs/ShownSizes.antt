@@ -1,7 +1,7 @@
 -- No line prints more than 101,888 bytes.
 -- Assumes nothing.
-use Prim.Native.Nat.{ℕ, _*_, _≤_}
-use mathlib.Core.Path.{_≡_, refl, ap, sym, _∙_, subst}
+use Prim.Native.Nat.{_*_, _≤_}
+use mathlib.Core.Path.{_≡_, refl}
 use mathlib.Core.List.{List, [], _∷_}
 use mathlib.Core.Option.{Option, none, some}
 use native.Mathlib.Omega.{arith}
@@ -14,7 +14,7 @@ use Rattle.model.specs.Calls.{change}
 use Rattle.model.specs.Sheet.{Line, Does, Lists, Unreadable, typeOrDash, partLine, listing, shownBy}
 use Rattle.model.proofs.Lists.{each-map}
 use Rattle.model.proofs.Parts.{Unreserved, parts-few, parts-named}
-use Rattle.lines.proofs.Sends.{part-line, row-length, answer-length}
+use Rattle.lines.proofs.Sends.{row-length, answer-length}
 use Rattle.commands.specs.Feeding.{mostShown}
 use Rattle.commands.proofs.FieldSizes.{type-size}
 
@@ -33,7 +33,6 @@ module _ (S : State) (g : Good S) where
 
   part-few : (q : List Item) → Unreserved (spelling q) → length (partLine S q) ≤ 398
   part-few q u =
-      let e : length (partLine S q) ≡ length (partLine S q) = ap length (part-line S q) in
       row-length (length q) (length (content q)) (spelling q) (mediaTypeOf (spelling q) S) (name-few (spelling q) (u .0)) (type-few (spelling q))
 
   pub listing-length : length (listing S) ≤ mostShown

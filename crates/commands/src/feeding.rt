@@ -15,21 +15,43 @@ pub struct Fed {
 }
 
 // Goes on with a piece from a place to its next line feed, and runs the line that ends there; or to the end of the piece.
-fn feed_line(pkg: &mut [u8], line: &mut [u8], n: usize, piece: &[u8], from: usize, out: &mut [u8]) -> Fed
+fn feed_line(
+    pkg: &mut [u8],
+    line: &mut [u8],
+    n: usize,
+    piece: &[u8],
+    from: usize,
+    out: &mut [u8],
+) -> Fed
     ensures { λ r. ⌜ Steps (now (pkg .entry)) (now (line .entry)) n (now (piece .entry)) from (now (out .entry)) (r .length) (r .from) (r .printed) (now (pkg .exit)) (now (line .exit)) (now (out .exit)) ⌝ }
 {
     let g = gather(line, n, piece, from);
     let e = g.length;
     let at = g.at;
     if piece.len() <= at {
-        return Fed { length: e, from: at, printed: 0 };
+        return Fed {
+            length: e,
+            from: at,
+            printed: 0,
+        };
     }
     let printed = run_line(pkg, &line[..e], out);
-    Fed { length: 0, from: at + 1, printed }
+    Fed {
+        length: 0,
+        from: at + 1,
+        printed,
+    }
 }
 
 // Goes on with a piece until it is used up, or until the output might not hold what one more line prints.
-pub fn feed(pkg: &mut [u8], line: &mut [u8], n: usize, piece: &[u8], from: usize, out: &mut [u8]) -> Fed
+pub fn feed(
+    pkg: &mut [u8],
+    line: &mut [u8],
+    n: usize,
+    piece: &[u8],
+    from: usize,
+    out: &mut [u8],
+) -> Fed
     ensures { λ r. ⌜ Feeds (now (pkg .entry)) (now (line .entry)) n (now (piece .entry)) from (now (out .entry)) (r .length) (r .from) (r .printed) (now (pkg .exit)) (now (line .exit)) (now (out .exit)) ⌝ }
 {
     let mut m = n;
@@ -41,10 +63,18 @@ pub fn feed(pkg: &mut [u8], line: &mut [u8], n: usize, piece: &[u8], from: usize
         i = f.from;
         at += f.printed;
         if out.len() < at + MOST_SHOWN {
-            return Fed { length: m, from: i, printed: at };
+            return Fed {
+                length: m,
+                from: i,
+                printed: at,
+            };
         }
     }
-    Fed { length: m, from: i, printed: at }
+    Fed {
+        length: m,
+        from: i,
+        printed: at,
+    }
 }
 
 // The input has ended: runs the n bytes of a line that no line feed ended. How many bytes are printed.

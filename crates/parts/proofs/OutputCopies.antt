@@ -119,7 +119,7 @@ module _ (b : List ℕ) (f t : ℕ) where
       is = λ S h m.
           let p : piece ≡ getD (S .items) i noItem .bytes = ep (h .lies .sound) (omega (arith, items-le b S h)) ∙ item-bytes b S h i (omega arith) in
           let e : length (content (run i t (S .items))) ≡ length piece + length (content (run (i + 1) t (S .items))) =
-              rw (run-cons (S .items) i t l m, ← p) (length-append piece (content (run (i + 1) t (S .items)))) in
+          rw (run-cons (S .items) i t l m, ← p) (length-append piece (content (run (i + 1) t (S .items)))) in
           omega (arith, w .is S h m);
     }
 

@@ -37,7 +37,7 @@ module _ {E : Type 0} where
   drop-none : (l : List E) (m : ℕ) → m ≤ length l → drop m l ≡ [] → m ≡ length l
   drop-none l m h e = omega (arith, length-drop m l, ap length e)
 
-parts-none : parts [] ≡ []
+pub parts-none : parts [] ≡ []
 unfolding parts leaders those
 parts-none = refl
 

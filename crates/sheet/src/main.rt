@@ -35,7 +35,13 @@ fn run_piece(pkg: &mut [u8], line: &mut [u8], n: usize, piece: &[u8], out: &mut 
 }
 
 // Reads once and runs what came. Whether there may be more.
-fn run_some(pkg: &mut [u8], line: &mut [u8], n: &mut usize, piece: &mut [u8], out: &mut [u8]) -> bool
+fn run_some(
+    pkg: &mut [u8],
+    line: &mut [u8],
+    n: &mut usize,
+    piece: &mut [u8],
+    out: &mut [u8],
+) -> bool
     requires { ⌜ Ready (now pkg) (now line) (now n) (now out) ⌝ }
     ensures { λ _. ⌜ Ready (now (pkg .exit)) (now (line .exit)) (now (n .exit)) (now (out .exit)) ⌝ }
 {
