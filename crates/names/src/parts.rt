@@ -9,9 +9,9 @@ use chars::search::find_past;
 use chars::units::Grammar;
 ghost use mathlib.Core.Path.{_≡_};
 ghost use lib.ListN.{drop};
-ghost use Rattle.chars.specs.Bytes.{ascii, slash};
+ghost use Rattle.chars.specs.Bytes.{ascii, dot, slash};
 ghost use Rattle.chars.specs.Classes.{classes};
-ghost use Rattle.chars.specs.Lists.{split, all};
+ghost use Rattle.chars.specs.Lists.{split, all, afterLast};
 ghost use Rattle.chars.specs.Folding.{equivalent, endsIn};
 ghost use Rattle.names.specs.Names.{segment, partName, reserved, extensionAt};
 
@@ -95,12 +95,19 @@ pub fn is_reserved(s: &[u8]) -> bool
     false
 }
 
+// The place behind the last dot, 0 if there is none.
+fn past_dot(s: &[u8]) -> usize
+    ensures { λ r. ⌜ r ≡ afterLast dot (now (s .entry)) ⌝ }
+{
+    find_past(s, b'.')
+}
+
 // Where a name's extension starts, 0 if it has none.
 pub fn extension_at(s: &[u8]) -> usize
     ensures { λ r. ⌜ r ≡ extensionAt (now (s .entry)) ⌝ }
 {
     let i = find_past(s, b'/');
-    let d = find_past(&s[i..], b'.');
+    let d = past_dot(&s[i..]);
     if d == 0 {
         return 0;
     }

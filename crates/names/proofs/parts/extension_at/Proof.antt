@@ -28,38 +28,38 @@ starts a = omega (arith, a .find-past .ensures, last-le slash (S a))
 second : (a : First) (d : ℕ) → d ≡ afterLast dot (take (length (S a) - a .find-past .result) (drop (a .find-past .result) (S a))) → afterLast dot (drop (afterLast slash (S a)) (S a)) ≡ d
 second a d e = rw (← a .find-past .ensures, ← take-rest (S a) (a .find-past .result)) (sym e)
 
-sub-find-past : tie.Need-sub-find-past
-sub-find-past c = starts c
+sub-past-dot : tie.Need-sub-past-dot
+sub-past-dot c = starts c
 
-part-find-past-start : tie.Need-part-find-past-start
-part-find-past-start c = starts c
+part-past-dot-start : tie.Need-part-past-dot-start
+part-past-dot-start c = starts c
 
-part-find-past-end : tie.Need-part-find-past-end
-part-find-past-end c = search needs
+part-past-dot-end : tie.Need-part-past-dot-end
+part-past-dot-end c = search needs
 
-find-past-requires-2 : tie.Need-find-past-requires-2
-find-past-requires-2 c κs = search needs
+past-dot-requires : tie.Need-past-dot-requires
+past-dot-requires c κs = search needs
 
 returns : tie.Need-returns
 unfolding extensionAt
-returns c = rw (second (c .before .before .before) _ (c .before .find-past2 .ensures), c .if1 .taken)
+returns c = rw (second (c .before .before .before) _ (c .before .past-dot .ensures), c .if1 .taken)
 
 add-result : tie.Need-add-result
-add-result c = let a = c .before .before .before in omega (arith, starts a, c .before .find-past2 .ensures, last-le dot (take (length (S a) - a .find-past .result) (drop (a .find-past .result) (S a))), simp (length-take, length-drop) at (last-le dot (take (length (S a) - a .find-past .result) (drop (a .find-past .result) (S a)))))
+add-result c = let a = c .before .before .before in omega (arith, starts a, c .before .past-dot .ensures, last-le dot (take (length (S a) - a .find-past .result) (drop (a .find-past .result) (S a))), simp (length-take, length-drop) at (last-le dot (take (length (S a) - a .find-past .result) (drop (a .find-past .result) (S a)))))
 
 returns-2 : tie.Need-returns-2
 unfolding extensionAt
-returns-2 c = let a = c .before .before .before in rw (second a _ (c .before .find-past2 .ensures), ne-eqb _ _ (c .if1 .left), ← a .find-past .ensures)
+returns-2 c = let a = c .before .before .before in rw (second a _ (c .before .past-dot .ensures), ne-eqb _ _ (c .if1 .left), ← a .find-past .ensures)
 
 pub extension-at-spec : {M : Type 1} → statement M
 extension-at-spec =
     tie.close
     (tie.spec
     find-past-requires
-    sub-find-past
-    part-find-past-start
-    part-find-past-end
-    find-past-requires-2
+    sub-past-dot
+    part-past-dot-start
+    part-past-dot-end
+    past-dot-requires
     returns
     add-result
     returns-2)
