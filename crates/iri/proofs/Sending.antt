@@ -12,7 +12,7 @@ use lib.ListN.{length, set, getD, take, drop, take-append-drop, length-append}
 use lib.Seq.{paste, paste-suc, take-length, length-take-le, take-at, drop-append-add, drop-drop, take-append-seam}
 use borrow.Author.Tests.{lt-leb, le-leb, leb-true, leb-false}
 use Rattle.iri.specs.Answers.{Outcome, No, ofWritten, written, Text, writtenWhere, Answer}
-use Rattle.iri.specs.Scratch.{Sent}
+use Rattle.iri.specs.Scratch.{Sent, Fitted}
 use Rattle.iri.specs.declared.writing.Written.the-variants.{Refused, Short, Bytes}
 use Rattle.iri.proofs.DotTurns.{fits}
 
@@ -91,6 +91,29 @@ module _ (o : Outcome) (t w ys out : List ℕ) (n : ℕ) (e : o ≡ Text t) (s :
       let l′ : n ≤ length out = rw k at l in
       let i : m ≡ length t = r .next-is ∙ zero-add (length t) in
       answer-bytes o t out out' m e i (omega (arith, n-is)) (r .fits (omega (arith, n-is)) ∙ rw (k, zero-add (length t)))
+
+-- the same, told by its length alone
+module _ (t w ys out : List ℕ) (n : ℕ) (s : Sent w 0 t n ys) (z : length ys ≡ 0) where
+  pub fitted-none : length (ys ++ out) < n → Fitted out t n (ys ++ out)
+  fitted-none l =
+      let k = append-none ys out z in
+      let l′ : length out < n = rw k at l in
+      record { is = s .next-is ∙ zero-add (length t); fits = λ f. absurd (omega arith); short = λ _. k }
+
+  pub fitted-sent : (m : ℕ) (out' : List ℕ) → n ≤ length (ys ++ out) → Sent (ys ++ out) 0 t m out' → Fitted out t m out'
+  fitted-sent m out' l r =
+      let k : ys ++ out ≡ out = append-none ys out z in
+      let l′ : n ≤ length out = rw k at l in
+      let i : m ≡ length t = r .next-is ∙ zero-add (length t) in
+      record { is = i; fits = λ f. r .fits (omega (arith, s .next-is)) ∙ rw (k, zero-add (length t), i); short = λ f. absurd (omega (arith, s .next-is)) }
+
+-- the answer of a call that has written a text where it fits
+module _ (o : Outcome) (t out out' : List ℕ) (n : ℕ) (e : o ≡ Text t) (f : Fitted out t n out') (l : length out' ≡ length out) where
+  pub fitted-short : length out' < n → ofWritten (Short n) out' ≡ written o out
+  fitted-short s = answer-short o t out out' n e (f .is) (omega arith) (f .short (omega arith))
+
+  pub fitted-bytes : n ≤ length out' → ofWritten (Bytes n) out' ≡ written o out
+  fitted-bytes s = answer-bytes o t out out' n e (f .is) (omega arith) (f .fits (omega arith) ∙ rw (f .is))
 
 -- the same text in other words
 pub sent-as : (o o' t u : List ℕ) (at n : ℕ) → u ≡ t → Sent o at t n o' → Sent o at u n o'

@@ -203,5 +203,5 @@ module _ (base r : List ℕ) (i : Bool) (ei : i ≡ packageIri base) where
       unfolding resolveReference
       reference-text = rw (← ei, not-false i qi, ← ej, not-false j qj)
 
-      pub taken-is : (b x : Parts) → SplitAt base (b .scheme) (b .authority) (b .path) (b .query) → SplitAt r (x .scheme) (x .authority) (x .path) (x .query) → Taken base r b x
-      taken-is b x f g = record { base-is = f; reference-is = g; base-few = package-few base (sym ei ∙ not-false i qi); reference-few = iri-few r (sym ej ∙ not-false j qj) }
+      pub judged-few : (length base ≤ 255) × (length r ≤ 255)
+      judged-few = (package-few base (sym ei ∙ not-false i qi), iri-few r (sym ej ∙ not-false j qj))

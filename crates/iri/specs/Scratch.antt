@@ -1,6 +1,6 @@
 -- What the inner functions ensure: of a lent output and of scratch that a caller lends, and where they say that a component stands.
 -- Assumes nothing.
-use Prim.Native.Nat.{ℕ, _+_, _-_, _≤_}
+use Prim.Native.Nat.{ℕ, _+_, _-_, _≤_, _<_}
 use mathlib.Core.Path.{_≡_}
 use mathlib.Core.Bool.{Bool, true, false, _||_}
 use mathlib.Core.List.{List, _++_}
@@ -23,6 +23,12 @@ use Rattle.iri.specs.declared.split.Parts.{Parts}
 pub record Sent (out : List ℕ) (at : ℕ) (bytes : List ℕ) (next : ℕ) (out' : List ℕ) : Type 0 where
   pub next-is : next ≡ at + length bytes
   pub fits : at + length bytes ≤ length out → out' ≡ take at out ++ (bytes ++ drop (at + length bytes) out)
+
+-- a text is written to the start of an output where all of it fits, else the output stays; its length is told in any case
+pub record Fitted (out text : List ℕ) (n : ℕ) (out' : List ℕ) : Type 0 where
+  pub is : n ≡ length text
+  pub fits : n ≤ length out → out' ≡ text ++ drop n out
+  pub short : length out < n → out' ≡ out
 
 -- the code's own name for a rule
 abbrev pub ofMove : Move → Rule

@@ -21,9 +21,9 @@ ghost use Rattle.chars.specs.Bytes.{ascii};
 ghost use Rattle.chars.specs.Lists.{none};
 ghost use Rattle.chars.specs.Characters.{stands};
 ghost use Rattle.chars.specs.Folding.{equivalent};
-ghost use Rattle.iri.specs.Pack.{escape, escaped, partOrRoot, compose as composed, slashed, lowTriplet, unfragmentedIri, partOf, resolvePack, ofResolved, located};
+ghost use Rattle.iri.specs.Pack.{escape, escaped, packIri, partOrRoot, compose as composed, slashed, lowTriplet, unfragmentedIri, partOf, resolvePack, ofResolved, located};
 ghost use Rattle.iri.specs.Answers.{ofWritten, written};
-ghost use Rattle.iri.specs.Scratch.{Sent, Placed, PlacedAs, Decoded};
+ghost use Rattle.iri.specs.Scratch.{Sent, Fitted, Placed, PlacedAs, Decoded};
 
 fn is_part_or_root(n: &[u8]) -> bool
     ensures { λ r. ⌜ r ≡ partOrRoot (now (n .entry)) ⌝ }
@@ -86,6 +86,22 @@ fn put_path(path: &[u8], rest: &mut [u8])
     emit(rest, 0, path);
 }
 
+// Writes the pack IRI of a package IRI and a path, which both are judged, where all of it fits. Its length.
+pub fn put_pack_iri(p: &[u8], path: &[u8], out: &mut [u8]) -> usize
+    requires { ⌜ (length (now p) ≤ 255) × (length (now path) ≤ 511) ⌝ }
+    ensures { λ r. ⌜ Fitted (now (out .entry)) (packIri (now (p .entry)) (now (path .entry))) r (now (out .exit)) ⌝ }
+{
+    let k = find(p, 0, b'#');
+    let a = put_authority(&p[..k], &mut out[..0]);
+    let need = a + path.len();
+    if out.len() < need {
+        return need;
+    }
+    put_authority(&p[..k], out);
+    put_path(path, &mut out[a..]);
+    need
+}
+
 // The pack IRI of a package IRI and a part name, or / for the package.
 pub fn compose(p: &[u8], n: &[u8], out: &mut [u8]) -> Written
     ensures { λ r. ⌜ ofWritten r (now (out .exit)) ≡ written (composed (now (p .entry)) (now (n .entry))) (now (out .entry)) ⌝ }
@@ -96,14 +112,10 @@ pub fn compose(p: &[u8], n: &[u8], out: &mut [u8]) -> Written
     if !is_part_or_root(n) {
         return Written::Refused(4);
     }
-    let k = find(p, 0, b'#');
-    let a = put_authority(&p[..k], &mut out[..0]);
-    let need = a + n.len();
+    let need = put_pack_iri(p, n, out);
     if out.len() < need {
         return Written::Short(need);
     }
-    put_authority(&p[..k], out);
-    put_path(n, &mut out[a..]);
     Written::Bytes(need)
 }
 

@@ -15,7 +15,7 @@ ghost use lib.ListN.{length};
 ghost use Rattle.iri.specs.References.{mergedPath, target, resolve};
 ghost use Rattle.iri.specs.Targets.{resolveReference};
 ghost use Rattle.iri.specs.Answers.{ofWritten, written};
-ghost use Rattle.iri.specs.Scratch.{Sent, Reached, Taken, Went};
+ghost use Rattle.iri.specs.Scratch.{Sent, Fitted, Reached, Taken, Went};
 
 // 5.2.3, for a reference with a path and neither scheme nor authority; authority: the base has one.
 fn merge(authority: bool, base: &[u8], r: &[u8], out: &mut [u8]) -> usize
@@ -35,7 +35,7 @@ fn merge(authority: bool, base: &[u8], r: &[u8], out: &mut [u8]) -> usize
 }
 
 // Writes the path of r from the base path to the start of out, and says its length. What follows it in out is scratch.
-pub(crate) fn relative_path(authority: bool, base: &[u8], r: &[u8], out: &mut [u8]) -> usize
+pub fn relative_path(authority: bool, base: &[u8], r: &[u8], out: &mut [u8]) -> usize
     requires { ⌜ (length (now base) ≤ 255) × (length (now r) ≤ 255) × (512 ≤ length (now out)) ⌝ }
     ensures { λ k. ⌜ Reached authority (now (base .entry)) (now (r .entry)) k (now (out .exit)) ⌝ }
 {
@@ -108,6 +108,22 @@ fn put_target(base: &[u8], b: Parts, r: &[u8], x: Parts, path: &[u8], out: &mut 
     put_tail(base, b, r, x, out, e)
 }
 
+// Writes a reference resolved against a base, which both are judged, where all of it fits. Its length.
+pub fn put_reference(base: &[u8], reference: &[u8], out: &mut [u8]) -> usize
+    requires { ⌜ (length (now base) ≤ 255) × (length (now reference) ≤ 255) ⌝ }
+    ensures { λ r. ⌜ Fitted (now (out .entry)) (resolve (now (base .entry)) (now (reference .entry))) r (now (out .exit)) ⌝ }
+{
+    let b = split(base);
+    let x = split(reference);
+    let mut path = [0; 512];
+    let k = target_path(base, b, reference, x, &mut path);
+    let need = put_target(base, b, reference, x, &path[..k], &mut out[..0]);
+    if out.len() < need {
+        return need;
+    }
+    put_target(base, b, reference, x, &path[..k], out)
+}
+
 // An external target, resolved against a package IRI.
 pub fn resolve_reference(base: &[u8], reference: &[u8], out: &mut [u8]) -> Written
     ensures { λ r. ⌜ ofWritten r (now (out .exit)) ≡ written (resolveReference (now (base .entry)) (now (reference .entry))) (now (out .entry)) ⌝ }
@@ -118,13 +134,9 @@ pub fn resolve_reference(base: &[u8], reference: &[u8], out: &mut [u8]) -> Writt
     if !is_iri(reference) {
         return Written::Refused(9);
     }
-    let b = split(base);
-    let x = split(reference);
-    let mut path = [0; 512];
-    let k = target_path(base, b, reference, x, &mut path);
-    let need = put_target(base, b, reference, x, &path[..k], &mut out[..0]);
+    let need = put_reference(base, reference, out);
     if out.len() < need {
         return Written::Short(need);
     }
-    Written::Bytes(put_target(base, b, reference, x, &path[..k], out))
+    Written::Bytes(need)
 }

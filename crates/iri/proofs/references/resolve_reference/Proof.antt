@@ -1,12 +1,8 @@
-use mathlib.Core.Path.{sym}
-use native.Mathlib.Omega.{arith}
-use lib.Seq.{length-take-le}
-use borrow.Author.Needs.{needs}
 use Rattle.iri.specs.References.{resolve}
 use Rattle.iri.specs.Targets.{resolveReference}
-use Rattle.iri.proofs.Lists.{length-take-few}
-use Rattle.iri.proofs.Sending.{answer-refused, dry-short, dry-bytes}
-use Rattle.iri.proofs.Transforms.{reference-base, reference-no, taken-is, reference-text}
+use Rattle.iri.proofs.Sending.{answer-refused, fitted-short, fitted-bytes}
+use Rattle.iri.proofs.Transforms.{reference-base, reference-no, reference-text, judged-few}
+use borrow.Author.Needs.{needs}
 use Rattle.iri.proofs.references.resolve_reference.Statement.{statement}
 use Rattle.iri.proofs.references.resolve_reference.Tie as tie
 
@@ -22,53 +18,20 @@ is-iri-requires c κs = search needs
 returns-2 : tie.Need-returns-2
 returns-2 c = answer-refused (resolveReference (c .before .before .before .before .before .before .before .args .base .now) (c .before .before .before .before .before .before .before .args .reference .now)) 9 (c .before .before .before .before .before .before .before .args .out .now) (reference-no (c .before .before .before .before .before .before .before .args .base .now) (c .before .before .before .before .before .before .before .args .reference .now) _ (c .before .before .before .is-package-iri .ensures) (c .before .before .if1 .left) _ (c .before .is-iri .ensures) (c .if2 .taken))
 
-split-requires : tie.Need-split-requires
-split-requires c κs = search needs
-
-split-requires-2 : tie.Need-split-requires-2
-split-requires-2 c κs = search needs
-
-slice-aggregate-target-path : tie.Need-slice-aggregate-target-path
-slice-aggregate-target-path c = search needs
-
-target-path-requires : tie.Need-target-path-requires
-target-path-requires c κs = (taken-is (c .before .before .before .before .before .before .before .before .before .before .args .base .now) (c .before .before .before .before .before .before .before .before .before .before .args .reference .now) _ (c .before .before .before .before .before .before .is-package-iri .ensures) (c .before .before .before .before .before .if1 .left) _ (c .before .before .before .before .is-iri .ensures) (c .before .before .before .if2 .left) _ _ (c .before .before .split .ensures) (c .before .split2 .ensures), omega arith)
-
-array-share-prefix-path : tie.Need-array-share-prefix-path
-array-share-prefix-path c = search needs
-
-slice-aggregate-put-target : tie.Need-slice-aggregate-put-target
-slice-aggregate-put-target c = sym (length-take-le _ _ (omega (arith, c .before .before .target-path .ensures .few, c .before .before .target-path .kept .1 .1 .1 .1 .0)))
-
-slice-relend-prefix-put-target : tie.Need-slice-relend-prefix-put-target
-slice-relend-prefix-put-target c = search needs
-
-slice-aggregate-put-target-2 : tie.Need-slice-aggregate-put-target-2
-slice-aggregate-put-target-2 c = search needs
-
-put-target-requires : tie.Need-put-target-requires
-put-target-requires c κs = (taken-is (c .before .before .before .before .before .before .before .before .before .before .before .before .before .before .args .base .now) (c .before .before .before .before .before .before .before .before .before .before .before .before .before .before .args .reference .now) _ (c .before .before .before .before .before .before .before .before .before .before .is-package-iri .ensures) (c .before .before .before .before .before .before .before .before .before .if1 .left) _ (c .before .before .before .before .before .before .before .before .is-iri .ensures) (c .before .before .before .before .before .before .before .if2 .left) _ _ (c .before .before .before .before .before .before .split .ensures) (c .before .before .before .before .before .split2 .ensures), c .before .before .before .target-path .ensures .text, omega (arith, length-take-few (c .before .before .before .target-path .result) (c .before .before .before .target-path .last .1 .1 .1 .1 .0), c .before .before .before .target-path .ensures .few))
+put-reference-requires : tie.Need-put-reference-requires
+put-reference-requires c κs = judged-few (c .before .before .before .before .before .before .before .before .args .base .now) (c .before .before .before .before .before .before .before .before .args .reference .now) _ (c .before .before .before .before .is-package-iri .ensures) (c .before .before .before .if1 .left) _ (c .before .before .is-iri .ensures) (c .before .if2 .left)
 
 same-length : tie.Need-same-length
 same-length c = search needs
 
 returns-3 : tie.Need-returns-3
-returns-3 c = dry-short (resolveReference (c .before .before .before .before .before .before .before .before .before .before .before .before .before .before .before .before .before .before .args .base .now) (c .before .before .before .before .before .before .before .before .before .before .before .before .before .before .before .before .before .before .args .reference .now)) (resolve (c .before .before .before .before .before .before .before .before .before .before .before .before .before .before .before .before .before .before .args .base .now) (c .before .before .before .before .before .before .before .before .before .before .before .before .before .before .before .before .before .before .args .reference .now)) _ _ (c .before .before .before .before .before .before .before .before .before .before .before .before .before .before .before .before .before .before .args .out .now) _ (reference-text (c .before .before .before .before .before .before .before .before .before .before .before .before .before .before .before .before .before .before .args .base .now) (c .before .before .before .before .before .before .before .before .before .before .before .before .before .before .before .before .before .before .args .reference .now) _ (c .before .before .before .before .before .before .before .before .before .before .before .before .before .before .is-package-iri .ensures) (c .before .before .before .before .before .before .before .before .before .before .before .before .before .if1 .left) _ (c .before .before .before .before .before .before .before .before .before .before .before .before .is-iri .ensures) (c .before .before .before .before .before .before .before .before .before .before .before .if2 .left)) (c .before .before .before .put-target .ensures) (c .before .before .before .put-target .kept .1 .1 .1 .1 .1 .0) (c .if3 .taken)
-
-array-share-prefix-path-2 : tie.Need-array-share-prefix-path-2
-array-share-prefix-path-2 c = search needs
-
-slice-aggregate-put-target-3 : tie.Need-slice-aggregate-put-target-3
-slice-aggregate-put-target-3 c = sym (length-take-le _ _ (omega (arith, c .before .before .before .before .before .before .before .before .target-path .ensures .few, c .before .before .before .before .before .before .before .before .target-path .kept .1 .1 .1 .1 .0)))
-
-put-target-requires-2 : tie.Need-put-target-requires-2
-put-target-requires-2 c κs = (taken-is (c .before .before .before .before .before .before .before .before .before .before .before .before .before .before .before .before .before .before .before .before .args .base .now) (c .before .before .before .before .before .before .before .before .before .before .before .before .before .before .before .before .before .before .before .before .args .reference .now) _ (c .before .before .before .before .before .before .before .before .before .before .before .before .before .before .before .before .is-package-iri .ensures) (c .before .before .before .before .before .before .before .before .before .before .before .before .before .before .before .if1 .left) _ (c .before .before .before .before .before .before .before .before .before .before .before .before .before .before .is-iri .ensures) (c .before .before .before .before .before .before .before .before .before .before .before .before .before .if2 .left) _ _ (c .before .before .before .before .before .before .before .before .before .before .before .before .split .ensures) (c .before .before .before .before .before .before .before .before .before .before .before .split2 .ensures), c .before .before .before .before .before .before .before .before .before .target-path .ensures .text, omega (arith, length-take-few (c .before .before .before .before .before .before .before .before .before .target-path .result) (c .before .before .before .before .before .before .before .before .before .target-path .last .1 .1 .1 .1 .0), c .before .before .before .before .before .before .before .before .before .target-path .ensures .few))
+returns-3 c = fitted-short (resolveReference (c .before .before .before .before .before .before .before .before .before .before .before .before .args .base .now) (c .before .before .before .before .before .before .before .before .before .before .before .before .args .reference .now)) (resolve (c .before .before .before .before .before .before .before .before .before .before .before .before .args .base .now) (c .before .before .before .before .before .before .before .before .before .before .before .before .args .reference .now)) (c .before .before .before .before .before .before .before .before .before .before .before .before .args .out .now) _ _ (reference-text (c .before .before .before .before .before .before .before .before .before .before .before .before .args .base .now) (c .before .before .before .before .before .before .before .before .before .before .before .before .args .reference .now) _ (c .before .before .before .before .before .before .before .before .is-package-iri .ensures) (c .before .before .before .before .before .before .before .if1 .left) _ (c .before .before .before .before .before .before .is-iri .ensures) (c .before .before .before .before .before .if2 .left)) (c .before .before .before .put-reference .ensures) (c .before .before .before .put-reference .kept .1 .1 .0) (c .if3 .taken)
 
 same-length-2 : tie.Need-same-length-2
 same-length-2 c = search needs
 
 returns-4 : tie.Need-returns-4
-returns-4 c = dry-bytes (resolveReference (c .before .before .before .before .before .before .before .before .before .before .before .before .before .before .before .before .before .before .before .before .before .before .before .args .base .now) (c .before .before .before .before .before .before .before .before .before .before .before .before .before .before .before .before .before .before .before .before .before .before .before .args .reference .now)) (resolve (c .before .before .before .before .before .before .before .before .before .before .before .before .before .before .before .before .before .before .before .before .before .before .before .args .base .now) (c .before .before .before .before .before .before .before .before .before .before .before .before .before .before .before .before .before .before .before .before .before .before .before .args .reference .now)) _ _ (c .before .before .before .before .before .before .before .before .before .before .before .before .before .before .before .before .before .before .before .before .before .before .before .args .out .now) _ (reference-text (c .before .before .before .before .before .before .before .before .before .before .before .before .before .before .before .before .before .before .before .before .before .before .before .args .base .now) (c .before .before .before .before .before .before .before .before .before .before .before .before .before .before .before .before .before .before .before .before .before .before .before .args .reference .now) _ (c .before .before .before .before .before .before .before .before .before .before .before .before .before .before .before .before .before .before .before .is-package-iri .ensures) (c .before .before .before .before .before .before .before .before .before .before .before .before .before .before .before .before .before .before .if1 .left) _ (c .before .before .before .before .before .before .before .before .before .before .before .before .before .before .before .before .before .is-iri .ensures) (c .before .before .before .before .before .before .before .before .before .before .before .before .before .before .before .before .if2 .left)) (c .before .before .before .before .before .before .before .before .put-target .ensures) (c .before .before .before .before .before .before .before .before .put-target .kept .1 .1 .1 .1 .1 .0) _ _ (c .before .before .before .before .before .if3 .left) (c .before .before .put-target2 .ensures)
+returns-4 c = fitted-bytes (resolveReference (c .before .before .before .before .before .before .before .before .before .before .before .before .args .base .now) (c .before .before .before .before .before .before .before .before .before .before .before .before .args .reference .now)) (resolve (c .before .before .before .before .before .before .before .before .before .before .before .before .args .base .now) (c .before .before .before .before .before .before .before .before .before .before .before .before .args .reference .now)) (c .before .before .before .before .before .before .before .before .before .before .before .before .args .out .now) _ _ (reference-text (c .before .before .before .before .before .before .before .before .before .before .before .before .args .base .now) (c .before .before .before .before .before .before .before .before .before .before .before .before .args .reference .now) _ (c .before .before .before .before .before .before .before .before .is-package-iri .ensures) (c .before .before .before .before .before .before .before .if1 .left) _ (c .before .before .before .before .before .before .is-iri .ensures) (c .before .before .before .before .before .if2 .left)) (c .before .before .before .put-reference .ensures) (c .before .before .before .put-reference .kept .1 .1 .0) (c .if3 .left)
 
 pub resolve-reference-spec : {M : Type 1} → statement M
 resolve-reference-spec =
@@ -78,19 +41,8 @@ resolve-reference-spec =
     returns
     is-iri-requires
     returns-2
-    split-requires
-    split-requires-2
-    slice-aggregate-target-path
-    target-path-requires
-    array-share-prefix-path
-    slice-aggregate-put-target
-    slice-relend-prefix-put-target
-    slice-aggregate-put-target-2
-    put-target-requires
+    put-reference-requires
     same-length
     returns-3
-    array-share-prefix-path-2
-    slice-aggregate-put-target-3
-    put-target-requires-2
     same-length-2
     returns-4)
