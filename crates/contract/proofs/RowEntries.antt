@@ -4,6 +4,7 @@ use Prim.Native.Nat.{ℕ, suc, _+_, _-_, _≤_, _<_}
 use mathlib.Core.Path.{_≡_, refl, ap, ap₂, sym, _∙_}
 use mathlib.Core.Bool.{Bool, true, false, _||_, cond, true≢false}
 use mathlib.Core.List.{List, [], _∷_, _++_}
+use mathlib.Core.Option.{none, some}
 use native.Mathlib.Omega.{arith}
 use lib.Dec.{leb, ltb, eqb}
 use lib.ListN.{length, getD, take, drop}
@@ -73,6 +74,16 @@ module _ (b : List ℕ) (k : Key) (m r : ℕ) (em : m ≡ countOf b) (eb : Bound
             ap (λ (x : Row). sameKey k (rowKey x)) (ap (λ (i : ℕ). getD (rowsOf b) i noRow) (sym f) ∙ row-getD b r (omega arith))
             ∙ same-key-sym (rowKey (rowAt b r)) k (same-is (q .sound) ∙ e) in
             f ∙ sym (bound-hit rowKey k (rowsOf b) noRow (q .sorted) (omega arith) s)
+
+-- the row that is found
+module _ (b : List ℕ) (q : Ordered b) (k : Key) (r : ℕ) (er : Sought b k r) where
+  pub row-here : r < countOf b → lookup rowKey k (rowsOf b) ≡ some (rowAt b r)
+  row-here l =
+      let e = er .is q in
+      lookup-at rowKey k (rowsOf b) noRow (omega (arith, rows-count b)) ∙ ap (λ (i : ℕ). some (getD (rowsOf b) i noRow)) (sym e) ∙ ap some (row-getD b r l)
+
+  pub row-none : countOf b ≤ r → lookup rowKey k (rowsOf b) ≡ none
+  row-none l = let e = er .is q in lookup-none rowKey k (rowsOf b) (omega (arith, rows-count b))
 
 -- COUNTING
 module _ (b : List ℕ) (n m f t : ℕ) (em : m ≡ suc n) (ef : Bounded b (keyIn n [] 0 []) f) (et : Bounded b (keyIn m [] 0 []) t) where

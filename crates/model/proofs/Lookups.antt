@@ -1,7 +1,7 @@
 -- What is found after an insertion and after a removal; a sorted list is known by what is found in it.
 -- Assumes nothing.
 use Prim.Native.Nat.{ℕ, suc, _+_}
-use mathlib.Core.Path.{_≡_, refl, ap, ap₂, sym, _∙_}
+use mathlib.Core.Path.{_≡_, refl, ap, ap₂, sym, _∙_, subst}
 use mathlib.Core.Bool.{Bool, true, false, _||_, cond, true≢false}
 use mathlib.Core.List.{List, [], _∷_}
 use mathlib.Core.Option.{none, some}
@@ -128,6 +128,16 @@ module _ {E : Type 0} (key : E → Key) where
       go : (b : Bool) → sameKey k (key x) ≡ b → cond b (some x) (lookup key k xs) ≡ some e → (lookup key k xs ≡ some e → sameKey k (key e) ≡ true) → sameKey k (key e) ≡ true
       go true f h ih = let m : x ≡ e = some-eq x e h in ap (λ (y : E). sameKey k (key y)) (sym m) ∙ f
       go false f h ih = ih h
+
+  -- what holds of every entry holds of the one that is found
+  pub lookup-each : (P : E → Type 0) (k : Key) (xs : List E) (e : E) → Each P xs → lookup key k xs ≡ some e → P e
+  unfolding lookup
+  lookup-each P k [] e p h = absurd (none-some e h)
+  lookup-each P k (x ∷ xs) e p h = go (sameKey k (key x)) h (lookup-each P k xs e (p .1))
+    where
+      go : (b : Bool) → cond b (some x) (lookup key k xs) ≡ some e → (lookup key k xs ≡ some e → P e) → P e
+      go true h ih = subst P (some-eq x e h) (p .0)
+      go false h ih = ih h
 
   -- what a removal takes away
   pub sum-removed : (f : E → ℕ) (k : Key) (xs : List E) (e : E) → lookup key k xs ≡ some e → sumOf f (remove key k xs) + f e ≡ sumOf f xs

@@ -5,10 +5,12 @@ use mathlib.Core.Path.{_≡_, refl, ap, sym, _∙_}
 use mathlib.Core.Bool.{Bool, true, false, not, _&&_, cond}
 use native.Mathlib.Omega.{arith}
 use lib.Dec.{eqb, leb}
-use borrow.Author.Tests.{leb-true, eqb-false, eq-eqb, not-false}
+use lib.ListN.{length}
+use borrow.Author.Tests.{leb-true, eqb-true, eqb-false, eq-eqb, ne-eqb, not-false}
 use Rattle.names.specs.Names.{partName, reserved}
 use Rattle.names.specs.Iris.{iri}
 use Rattle.iri.specs.Targets.{internal, resolvePath, internalRefusal, targetRefusal}
+use Rattle.iri.proofs.Judging.{iri-few, target-few}
 use Rattle.model.specs.Fields.{sourceField, idField, relationshipTypeField, modeField, targetField, relationshipFields}
 use Rattle.model.specs.Package.{Relationship}
 use Rattle.model.specs.Good.{fieldsOfRelationship}
@@ -51,3 +53,19 @@ internal-target r f h =
     let z : eqb (r .mode) 0 ≡ true = eq-eqb (r .mode) 0 (omega arith) in
     internal-none (internal (r .target)) (partName (resolvePath (r .source) (r .target))) (reserved (resolvePath (r .source) (r .target)))
     (sym (ap (λ (t : Bool). cond t (internalRefusal (r .source) (r .target)) (cond (iri (r .target)) 0 9)) z) ∙ f .target)
+
+-- a target has 255 bytes at most
+pub target-size : (r : Relationship) → Fielded r → length (r .target) ≤ 255
+unfolding targetRefusal
+target-size r f = go (eqb (r .mode) 1) refl
+  where
+    external : (t : Bool) → iri (r .target) ≡ t → _≡_ {A = ℕ} (cond t 0 9) 0 → length (r .target) ≤ 255
+    external true e z = iri-few (r .target) e
+    external false e z = absurd (omega arith)
+
+    go : (t : Bool) → eqb (r .mode) 1 ≡ t → length (r .target) ≤ 255
+    go true e =
+        let m : r .mode ≡ 1 = eqb-true (r .mode) 1 e in
+        let z : eqb (r .mode) 0 ≡ false = ne-eqb (r .mode) 0 (λ y. omega arith) in
+        external (iri (r .target)) refl (sym (ap (λ (t : Bool). cond t (internalRefusal (r .source) (r .target)) (cond (iri (r .target)) 0 9)) z) ∙ f .target)
+    go false e = target-few (r .source) (r .target) (internal (r .target)) refl (ap not (internal-target r f e .0))

@@ -1,1 +1,2 @@
 pub mod RelationshipCalls
+pub mod TargetResolutions

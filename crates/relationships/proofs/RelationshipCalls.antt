@@ -27,6 +27,20 @@ use Rattle.contract.proofs.FieldSizes.{source-size}
 use Rattle.contract.proofs.FirstRefusals.{first-met, first-unmet, first-one}
 use Rattle.contract.proofs.SetStates.{relationships-among, relationship-slot, drop-step, put-step}
 
+-- TWO REFUSALS before others
+module _ (a b : ℕ) (ns : List ℕ) where
+  pub first-of-two : (k : ℕ) → first (a ∷ b ∷ []) ≡ k → (k ≡ 0 → ⊥) → first (a ∷ b ∷ ns) ≡ k
+  unfolding first
+  first-of-two k e z = go (eqb a 0) (eqb b 0) e
+    where
+      go : (x y : Bool) → cond x (cond y 0 b) a ≡ k → cond x (cond y (first ns) b) a ≡ k
+      go true true f = absurd (z (sym f))
+      go true false f = f
+      go false y f = f
+
+  pub first-past-two : first (a ∷ b ∷ []) ≡ 0 → first (a ∷ b ∷ ns) ≡ first ns
+  first-past-two z = let e = all-none _ z in first-unmet a (b ∷ ns) (e .0) ∙ first-unmet b ns (e .1 .0)
+
 -- THE KEY
 module _ (s i : Bytes) (k : ℕ) (ek : k ≡ sourceRefusal s) where
   pub key-source : (k ≡ 0 → ⊥) → k ≡ first (sourceField s ∷ idField i ∷ [])
@@ -44,24 +58,16 @@ module _ (s i : Bytes) (k : ℕ) (ek : k ≡ sourceRefusal s) where
 
 -- THE FIELDS; k is the key's refusal
 module _ (s i v : Bytes) (m : ℕ) (t : Bytes) where
-  fields-are : first (sourceField s ∷ idField i ∷ []) ≡ 0 → relationshipFields s i v m t ≡ first (relationshipTypeField v ∷ modeField m ∷ targetField m s t ∷ [])
+  abbrev others : List ℕ
+  others = relationshipTypeField v ∷ modeField m ∷ targetField m s t ∷ []
+
+  fields-are : first (sourceField s ∷ idField i ∷ []) ≡ 0 → relationshipFields s i v m t ≡ first others
   unfolding relationshipFields
-  fields-are z =
-      let e = all-none _ z in
-      first-unmet (sourceField s) (idField i ∷ relationshipTypeField v ∷ modeField m ∷ targetField m s t ∷ []) (e .0)
-      ∙ first-unmet (idField i) (relationshipTypeField v ∷ modeField m ∷ targetField m s t ∷ []) (e .1 .0)
+  fields-are z = first-past-two (sourceField s) (idField i) others z
 
   fields-refused : (k : ℕ) → first (sourceField s ∷ idField i ∷ []) ≡ k → (k ≡ 0 → ⊥) → relationshipFields s i v m t ≡ k
-  unfolding relationshipFields first
-  fields-refused k e z = go (eqb (sourceField s) 0) (eqb (idField i) 0) e
-    where
-      R : ℕ
-      R = first (relationshipTypeField v ∷ modeField m ∷ targetField m s t ∷ [])
-
-      go : (a b : Bool) → cond a (cond b 0 (idField i)) (sourceField s) ≡ k → cond a (cond b R (idField i)) (sourceField s) ≡ k
-      go true true f = absurd (z (sym f))
-      go true false f = f
-      go false b f = f
+  unfolding relationshipFields
+  fields-refused k e z = first-of-two (sourceField s) (idField i) others k e z
 
   module _ (k : ℕ) (ek : k ≡ first (sourceField s ∷ idField i ∷ [])) where
     pub fields-key : (k ≡ 0 → ⊥) → k ≡ relationshipFields s i v m t
@@ -100,26 +106,18 @@ module _ (s i v : Bytes) (m : ℕ) (t : Bytes) where
     mode-small = leb-true m 1 (not-false (leb m 1) (unmet (not (leb m 1)) 8 (omega arith) (all-none _ z .1 .1 .1 .0)))
 
 -- THE REFUSALS
+abbrev unheld : State → Bytes → Bytes → ℕ
+unheld S s i = when (not (held (lookup keyOfRelationship (relationshipKey s i) (S .relationships)))) 13
+
 drop-fields : (S : State) (s i : Bytes) (k : ℕ) → first (sourceField s ∷ idField i ∷ []) ≡ k → (k ≡ 0 → ⊥) → dropRelationshipRefusal S s i ≡ k
-unfolding dropRelationshipRefusal first
-drop-fields S s i k e z = go (eqb (sourceField s) 0) (eqb (idField i) 0) e
-  where
-    R : ℕ
-    R = first (when (not (held (lookup keyOfRelationship (relationshipKey s i) (S .relationships)))) 13 ∷ [])
-
-    go : (a b : Bool) → cond a (cond b 0 (idField i)) (sourceField s) ≡ k → cond a (cond b R (idField i)) (sourceField s) ≡ k
-    go true true f = absurd (z (sym f))
-    go true false f = f
-    go false b f = f
-
-drop-held : (S : State) (s i : Bytes) → first (sourceField s ∷ idField i ∷ []) ≡ 0 → dropRelationshipRefusal S s i ≡ when (not (held (lookup keyOfRelationship (relationshipKey s i) (S .relationships)))) 13
 unfolding dropRelationshipRefusal
-drop-held S s i z =
-    let e = all-none _ z in
-    let t = held (lookup keyOfRelationship (relationshipKey s i) (S .relationships)) in
-    first-unmet (sourceField s) (idField i ∷ when (not t) 13 ∷ []) (e .0) ∙ first-unmet (idField i) (when (not t) 13 ∷ []) (e .1 .0) ∙ first-one (when (not t) 13)
+drop-fields S s i k e z = first-of-two (sourceField s) (idField i) (unheld S s i ∷ []) k e z
 
-key-is : (s i : Bytes) → keyIn 3 s 0 i ≡ (3 ∷ relationshipKey s i .0, relationshipKey s i .1)
+drop-held : (S : State) (s i : Bytes) → first (sourceField s ∷ idField i ∷ []) ≡ 0 → dropRelationshipRefusal S s i ≡ unheld S s i
+unfolding dropRelationshipRefusal
+drop-held S s i z = first-past-two (sourceField s) (idField i) (unheld S s i ∷ []) z ∙ first-one (unheld S s i)
+
+pub key-is : (s i : Bytes) → keyIn 3 s 0 i ≡ (3 ∷ relationshipKey s i .0, relationshipKey s i .1)
 unfolding second
 key-is s i = refl
 

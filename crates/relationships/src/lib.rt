@@ -1,2 +1,3 @@
-// Relationships: put and drop.
+// Relationships: put, drop and resolve.
 pub mod calls;
+pub mod resolving;

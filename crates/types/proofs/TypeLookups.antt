@@ -7,7 +7,7 @@ use mathlib.Core.List.{List, [], _∷_}
 use mathlib.Core.Option.{Option, none, some}
 use native.Mathlib.Omega.{arith}
 use lib.Dec.{eqb}
-use lib.ListN.{length, getD, take, drop, length-drop}
+use lib.ListN.{length, take, drop, length-drop}
 use borrow.Author.Tests.{not-true, not-false, eq-eqb, ne-eqb}
 use Rattle.chars.specs.Bytes.{dot, slash}
 use Rattle.chars.specs.Lists.{afterLast}
@@ -15,36 +15,25 @@ use Rattle.chars.proofs.Searches.{take-rest, last-le}
 use Rattle.iri.specs.Answers.{Answer, answer, written}
 use Rattle.iri.specs.Answers as iri
 use Rattle.names.specs.Names.{partName, lastSegment, extensionAt}
-use Rattle.model.specs.Sets.{Bytes, Key, lookup}
+use Rattle.model.specs.Sets.{Bytes, lookup}
 use Rattle.model.specs.Fields.{first}
 use Rattle.model.specs.Package.{State, Default, Override, nameKey, keyOfDefault, keyOfOverride, typeOf, typeOfDefault, defaultFor, mediaTypeOf}
 use Rattle.model.specs.Calls.{Prints, MediaType, printed, withDefaults, withOverrides}
 use Rattle.model.proofs.Lookups.{none-some, some-eq}
-use Rattle.model.proofs.Places.{lookup-at, lookup-none}
 use Rattle.store.specs.Layout.{countOf}
-use Rattle.store.specs.Rows.{Row, noRow, rowAt, rowsOf, fieldOf}
+use Rattle.store.specs.Rows.{Row, rowAt, rowsOf, fieldOf}
 use Rattle.store.specs.Packages.{Sound, isPackage}
-use Rattle.store.proofs.Headers.{rows-count, row-getD}
 use Rattle.contract.specs.Rows.{second, keyIn, rowKey, defaultRow, overrideRow}
 use Rattle.contract.specs.Holds.{Holds}
 use Rattle.contract.specs.Entries.{Sought}
 use Rattle.contract.specs.Ran.{Ran}
 use Rattle.contract.proofs.RowOrders.{holds-ordered}
+use Rattle.contract.proofs.RowEntries.{row-here, row-none}
 use Rattle.contract.proofs.SetRows.{rowFor}
 use Rattle.contract.proofs.SetStates.{found-row, overrides-among, defaults-among}
 use Rattle.parts.specs.Runs.{PartOf}
 use Rattle.parts.proofs.TextAnswers.{text-refused, text-answered}
 use Rattle.types.specs.TypeRows.{Typed}
-
--- THE ROW OF A KEY
-module _ (b : List ℕ) (S : State) (h : Holds b S) (k : Key) (r : ℕ) (er : Sought b k r) where
-  row-here : r < countOf b → lookup rowKey k (rowsOf b) ≡ some (rowAt b r)
-  row-here l =
-      let e = er .is (holds-ordered b S h) in
-      lookup-at rowKey k (rowsOf b) noRow (omega (arith, rows-count b)) ∙ ap (λ (i : ℕ). some (getD (rowsOf b) i noRow)) (sym e) ∙ ap some (row-getD b r l)
-
-  row-none : countOf b ≤ r → lookup rowKey k (rowsOf b) ≡ none
-  row-none l = let e = er .is (holds-ordered b S h) in lookup-none rowKey k (rowsOf b) (omega (arith, rows-count b))
 
 -- a type stands in the second field of its entry's row
 override-type : (o : Option Override) (d : Option Default) (y : Row) → rowFor overrideRow o ≡ some y → typeOf o d ≡ some (fieldOf y 1)
@@ -88,7 +77,7 @@ module _ (b : List ℕ) (s : Bytes) (r m : ℕ) (er : Sought b (keyIn 2 s 0 []) 
   pub typed-override : r < m → Typed b s r
   unfolding mediaTypeOf
   typed-override l = record {
-    found = λ S h k. override-type (lookup keyOfOverride (nameKey s) (S .overrides)) (defaultFor s (S .defaults)) (rowAt b r) (sym (override-row b S h s) ∙ row-here b S h (keyIn 2 s 0 []) r er k);
+    found = λ S h k. override-type (lookup keyOfOverride (nameKey s) (S .overrides)) (defaultFor s (S .defaults)) (rowAt b r) (sym (override-row b S h s) ∙ row-here b (holds-ordered b S h) (keyIn 2 s 0 []) r er k);
     missing = λ S h k. absurd (omega arith);
   }
 
@@ -98,7 +87,7 @@ module _ (b : List ℕ) (s : Bytes) (r m : ℕ) (er : Sought b (keyIn 2 s 0 []) 
     unfolding mediaTypeOf
     type-is S h =
         ap (λ (o : Option Override). typeOf o (defaultFor s (S .defaults)))
-        (override-none (lookup keyOfOverride (nameKey s) (S .overrides)) (sym (override-row b S h s) ∙ row-none b S h (keyIn 2 s 0 []) r er (omega arith)))
+        (override-none (lookup keyOfOverride (nameKey s) (S .overrides)) (sym (override-row b S h s) ∙ row-none b (holds-ordered b S h) (keyIn 2 s 0 []) r er (omega arith)))
         ∙ ap (λ (j : ℕ). typeOfDefault (cond (eqb j 0) none (lookup keyOfDefault (nameKey (drop j s)) (S .defaults)))) (sym ei)
 
     pub typed-bare : i ≡ 0 → Typed b s m
@@ -108,8 +97,8 @@ module _ (b : List ℕ) (s : Bytes) (r m : ℕ) (er : Sought b (keyIn 2 s 0 []) 
     typed-default z j ej =
         let w : Sought b (keyIn 1 (drop i s) 0 []) j = subst (λ (e : Bytes). Sought b (keyIn 1 e 0 []) j) (take-rest s i) ej in
         record {
-          found = λ S h k. type-is S h ∙ rw (ne-eqb i 0 z) (default-type (lookup keyOfDefault (nameKey (drop i s)) (S .defaults)) (rowAt b j) (sym (default-row b S h (drop i s)) ∙ row-here b S h (keyIn 1 (drop i s) 0 []) j w k));
-          missing = λ S h k. type-is S h ∙ rw (ne-eqb i 0 z) (default-none (lookup keyOfDefault (nameKey (drop i s)) (S .defaults)) (sym (default-row b S h (drop i s)) ∙ row-none b S h (keyIn 1 (drop i s) 0 []) j w k));
+          found = λ S h k. type-is S h ∙ rw (ne-eqb i 0 z) (default-type (lookup keyOfDefault (nameKey (drop i s)) (S .defaults)) (rowAt b j) (sym (default-row b S h (drop i s)) ∙ row-here b (holds-ordered b S h) (keyIn 1 (drop i s) 0 []) j w k));
+          missing = λ S h k. type-is S h ∙ rw (ne-eqb i 0 z) (default-none (lookup keyOfDefault (nameKey (drop i s)) (S .defaults)) (sym (default-row b S h (drop i s)) ∙ row-none b (holds-ordered b S h) (keyIn 1 (drop i s) 0 []) j w k));
         }
 
 -- EACH WAY OUT OF THE CALL; q is the test of the name, y whether it is a part

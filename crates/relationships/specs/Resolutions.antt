@@ -1,0 +1,37 @@
+-- The answer of resolving a relationship, and what the inner functions of that call promise.
+-- Assumes nothing.
+use Prim.Native.Nat.{ℕ, _<_}
+use mathlib.Core.Path.{_≡_}
+use mathlib.Core.List.{List, [], _∷_}
+use mathlib.Core.Option.{some}
+use Rattle.iri.specs.Answers.{Answer, answer}
+use Rattle.iri.specs.Targets.{resolvePath}
+use Rattle.iri.specs.Pack.{packIri}
+use Rattle.model.specs.Package.{Relationship, State, group, isPart}
+use Rattle.model.specs.Calls.{Text, flag, resolved, filled}
+use Rattle.model.specs.Good.{fieldsOfRelationship}
+use Rattle.store.specs.Layout.{countOf}
+use Rattle.store.specs.Rows.{rowAt}
+use Rattle.contract.specs.Rows.{relationshipRow}
+use Rattle.contract.specs.Holds.{Holds}
+use Rattle.relationships.specs.declared.resolving.Resolution.{Resolution}
+use Rattle.relationships.specs.declared.resolving.Resolution.the-variants.{Internal, External, Short, Refused}
+
+-- document 01's number and values for each case of `Resolution`: "besides the length it answers the mode, and 1 if that part is held, else
+-- 0 (external: 0)"; "A refusal answers its number and 0 for every value (3: the length as the first)"
+abbrev pub ofResolution : Resolution → List ℕ → Answer
+ofResolution (Internal n h) out = answer 0 (n ∷ 0 ∷ flag h ∷ []) out
+ofResolution (External n) out = answer 0 (n ∷ 1 ∷ 0 ∷ []) out
+ofResolution (Short n) out = answer 3 (n ∷ 0 ∷ 0 ∷ []) out
+ofResolution (Refused k) out = answer k (0 ∷ 0 ∷ 0 ∷ []) out
+
+-- a is the answer where the internal target leads from its source, in a buffer b
+pub record LedTo (b source target base out : List ℕ) (a : Answer) : Type 0 where
+  pub kept : (a .number ≡ 0 → ⊥) → a .output ≡ out
+  pub is : (S : State) → Holds b S
+      → a ≡ filled 3 out (Text (packIri base (resolvePath source target)) (0 ∷ flag (isPart (group (resolvePath source target) (S .items))) ∷ []))
+
+-- a is the answer for the relationship in row i
+pub record RowResolved (b : List ℕ) (i : ℕ) (base out : List ℕ) (a : Answer) : Type 0 where
+  pub kept : (a .number ≡ 0 → ⊥) → a .output ≡ out
+  pub is : (S : State) → Holds b S → (r : Relationship) → rowAt b i ≡ relationshipRow r → fieldsOfRelationship r ≡ 0 → a ≡ filled 3 out (resolved S base (some r))
