@@ -1,9 +1,11 @@
 // The calls on Defaults, Overrides, media types and relationships.
 use crate::replies::Reply;
 use crate::replies::of_did;
+use crate::replies::of_resolution;
 use crate::replies::of_written;
 use relationships::calls::drop_relationship;
 use relationships::calls::put_relationship;
+use relationships::resolving::resolve_relationship;
 use types::calls::drop_default;
 use types::calls::drop_override;
 use types::calls::put_default;
@@ -70,4 +72,18 @@ pub extern "C" fn opc_drop_relationship(pkg: &mut [u8], source: &[u8], id: &[u8]
     ensures { λ r. ⌜ Ran (Call.Changes (Change.DropRelationship (now (source .entry)) (now (id .entry)))) (now (pkg .entry)) (ofReply r []) (now (pkg .exit)) ⌝ }
 {
     of_did(drop_relationship(pkg, source, id))
+}
+
+// The length of the IRI that a relationship leads to, its mode, and 1 if the part is held.
+#[no_mangle]
+pub extern "C" fn opc_resolve_relationship(
+    pkg: &[u8],
+    source: &[u8],
+    id: &[u8],
+    base: &[u8],
+    out: &mut [u8],
+) -> Reply
+    ensures { λ r. ⌜ Ran (Call.Prints (Print.ResolveRelationship (now (source .entry)) (now (id .entry)) (now (base .entry))) (now (out .entry))) (now (pkg .entry)) (ofReply r (now (out .exit))) (now (pkg .entry)) ⌝ }
+{
+    of_resolution(resolve_relationship(pkg, source, id, base, out))
 }

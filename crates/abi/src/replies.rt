@@ -5,12 +5,15 @@ use contract::answers::Totalled;
 use iri::pack::Resolved;
 use iri::writing::Written;
 use items::places::Span;
+use relationships::resolving::Resolution;
 ghost use mathlib.Core.Path.{_≡_};
 ghost use mathlib.Core.List.{List, []};
 ghost use Prim.Native.Nat.{ℕ};
 ghost use Rattle.iri.specs.Answers.{ofWritten};
 ghost use Rattle.iri.specs.Pack.{ofResolved};
+ghost use Rattle.model.specs.Calls.{flag as flagOf};
 ghost use Rattle.contract.specs.Answers.{ofDid, ofFound, ofTotalled};
+ghost use Rattle.relationships.specs.Resolutions.{ofResolution};
 ghost use Rattle.abi.specs.Replies.{ofReply};
 
 // A call's number (0: accepted), and how many of the three values count.
@@ -126,4 +129,21 @@ pub(crate) fn of_span(s: Span) -> Reply
     ensures { λ r. ⌜ r ≡ record { number = 0; count = 2; first = s .at; second = s .length; third = 0 } ⌝ }
 {
     two(0, s.at, s.length)
+}
+
+fn flag(b: bool) -> usize
+    ensures { λ r. ⌜ r ≡ flagOf b ⌝ }
+{
+    if b { 1 } else { 0 }
+}
+
+pub(crate) fn of_resolution(w: Resolution) -> Reply
+    ensures { λ r. ⌜ ((out : List ℕ) → ofReply r out ≡ ofResolution w out) ⌝ }
+{
+    match w {
+        Resolution::Internal { length, held } => three(0, length, 0, flag(held)),
+        Resolution::External { length } => three(0, length, 1, 0),
+        Resolution::Short(n) => three(3, n, 0, 0),
+        Resolution::Refused(k) => three(k, 0, 0, 0),
+    }
 }

@@ -47,7 +47,13 @@ fn asked_refusal(source: &[u8], id: &[u8], base: &[u8]) -> u8
 }
 
 // The pack IRI of the path resolved from the source.
-fn resolve_internal(pkg: &[u8], source: &[u8], target: &[u8], base: &[u8], out: &mut [u8]) -> Resolution
+fn resolve_internal(
+    pkg: &[u8],
+    source: &[u8],
+    target: &[u8],
+    base: &[u8],
+    out: &mut [u8],
+) -> Resolution
     requires { ⌜ Shape (now pkg) × (length (now source) ≤ 255) × (length (now target) ≤ 255) × (length (now base) ≤ 255) ⌝ }
     ensures { λ r. ⌜ LedTo (now (pkg .entry)) (now (source .entry)) (now (target .entry)) (now (base .entry)) (now (out .entry)) (ofResolution r (now (out .exit))) ⌝ }
 {
@@ -94,7 +100,13 @@ fn resolve_row(pkg: &[u8], r: usize, base: &[u8], out: &mut [u8]) -> Resolution
 }
 
 // What a relationship leads to: internal, a pack IRI; external, an IRI.
-pub fn resolve_relationship(pkg: &[u8], source: &[u8], id: &[u8], base: &[u8], out: &mut [u8]) -> Resolution
+pub fn resolve_relationship(
+    pkg: &[u8],
+    source: &[u8],
+    id: &[u8],
+    base: &[u8],
+    out: &mut [u8],
+) -> Resolution
     ensures { λ r. ⌜ Ran (Call.Prints (Print.ResolveRelationship (now (source .entry)) (now (id .entry)) (now (base .entry))) (now (out .entry))) (now (pkg .entry)) (ofResolution r (now (out .exit))) (now (pkg .entry)) ⌝ }
 {
     if !is_package(pkg) {
