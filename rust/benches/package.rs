@@ -254,6 +254,57 @@ fn fields() {
     }
 }
 
+/// What relationships lead to, among 200, beside 200 tiles: half of them lead
+/// to tiles, the others out of the package.
+fn resolves() {
+    let mut buffer = buffer();
+    let mut pair = Pair::new(&mut buffer);
+    for i in 0..200 {
+        pair.put(&tile(i), b"tile");
+    }
+    let Pair { package, ledger } = &mut pair;
+    let source = b"/slides/2026/ovary-17/index";
+    let (kind, base) = (b"a:tile", b"http://www.example.com/slides/2026.opc");
+    let ids: Vec<Vec<u8>> = (0..200)
+        .map(|i| format!("r{}-{i}", i * 7 % 20).into_bytes())
+        .collect();
+    for (i, id) in ids.iter().enumerate() {
+        let (mode, target) = match i % 2 {
+            0 => (
+                Mode::Internal,
+                tile(i)[b"/slides/2026/ovary-17/".len()..].to_vec(),
+            ),
+            _ => (Mode::External, format!("../masks/m{i}.tiff").into_bytes()),
+        };
+        let put = package.put_relationship(source, id, kind, mode, &target);
+        put.expect("room");
+        let put = ledger.put_relationship(source, id, kind, mode.number(), &target);
+        put.expect("room");
+    }
+    let (mut out, mut other) = ([0; 255], [0; 255]);
+    for (what, first) in [
+        ("resolve internal among 200", 0),
+        ("resolve external among 200", 1),
+    ] {
+        support::compare(
+            what,
+            500,
+            100,
+            |i| {
+                let id = &ids[first + 2 * i];
+                let resolved = package.resolve_relationship(source, id, base, &mut out);
+                resolved.expect("held").length
+            },
+            |i| {
+                let id = &ids[first + 2 * i];
+                let resolved = ledger.resolve_relationship(source, id, base, &mut other);
+                resolved.expect("held").length
+            },
+        );
+        assert_eq!(out, other);
+    }
+}
+
 fn reads() {
     let mut buffer = buffer();
     let mut pair = Pair::new(&mut buffer);
@@ -331,6 +382,7 @@ fn main() {
     reads();
     walks();
     fields();
+    resolves();
     println!(
         "find among 256 against 16: archive {:.2} times, reference {:.2} times",
         archive_256 / archive_16,

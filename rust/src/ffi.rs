@@ -183,4 +183,16 @@ extern "C" {
         id: *const u8,
         id_length: usize,
     ) -> Reply;
+    pub(crate) fn opc_resolve_relationship(
+        package: *const u8,
+        package_length: usize,
+        source: *const u8,
+        source_length: usize,
+        id: *const u8,
+        id_length: usize,
+        base: *const u8,
+        base_length: usize,
+        out: *mut u8,
+        out_length: usize,
+    ) -> Reply;
 }

@@ -87,6 +87,17 @@ impl Mode {
     }
 }
 
+/// What [`Package::resolve_relationship`] answers.
+#[derive(Clone, Copy, Debug, PartialEq, Eq, Hash)]
+pub struct Resolved {
+    /// How many bytes of the output are the IRI.
+    pub length: usize,
+    /// Internal: the IRI is the pack IRI of a part name.
+    pub mode: Mode,
+    /// Whether that part is held; of an external target never.
+    pub held: bool,
+}
+
 impl<'a> Package<'a> {
     /// Makes an empty package of `buffer`, whatever it held. `capacity` is the
     /// greatest charge that the package takes.
@@ -603,6 +614,75 @@ impl<'a> Package<'a> {
             )
         };
         done(reply)
+    }
+
+    /// Writes the IRI that a relationship leads to, in a package whose IRI is
+    /// `base`: internal, the pack IRI of the target's part name; external, the
+    /// target resolved against `base` without its fragment. 1,027 bytes always
+    /// suffice; what stood past the written ones is kept.
+    ///
+    /// # Errors
+    ///
+    /// [`Refusal::NotAPackage`]; [`Refusal::NotAPartName`] or
+    /// [`Refusal::Reserved`] for the source;
+    /// [`Refusal::BadRelationshipField`] for the id; [`Refusal::BadTarget`] if
+    /// `base` is no package IRI; [`Refusal::NotHeld`] if no equivalent source
+    /// has that very id; [`Refusal::OutputTooShort`].
+    ///
+    /// ```
+    /// use zombirels::package::{Mode, Package, Resolved, OVERHEAD};
+    /// use zombirels::Refusal;
+    /// let mut buffer = vec![0; 200 + OVERHEAD];
+    /// let mut slide = Package::start(&mut buffer, 200)?;
+    /// slide.put_item(b"/left/mask", b"")?;
+    /// slide.put_relationship(b"/Left/t3", b"m1", b"a:mask", Mode::Internal, b"mask")?;
+    /// slide.put_relationship(b"/Left/t3", b"c1", b"a:case", Mode::External, b"case#17")?;
+    ///
+    /// let (base, mut out) = (b"http://example.com/slide.opc", [0; 100]);
+    /// let mask = slide.resolve_relationship(b"/left/t3", b"m1", base, &mut out)?;
+    /// let iri = b"pack://http%3A,,example.com,slide.opc/Left/mask";
+    /// assert_eq!(&out[..mask.length], iri);
+    /// let expected = Resolved { length: iri.len(), mode: Mode::Internal, held: true };
+    /// assert_eq!(mask, expected);
+    ///
+    /// let case = slide.resolve_relationship(b"/left/t3", b"c1", base, &mut out)?;
+    /// assert_eq!(&out[..case.length], b"http://example.com/case#17");
+    /// assert_eq!((case.mode, case.held), (Mode::External, false));
+    /// # Ok::<(), Refusal>(())
+    /// ```
+    pub fn resolve_relationship(
+        &self,
+        source: &[u8],
+        id: &[u8],
+        base: &[u8],
+        out: &mut [u8],
+    ) -> Result<Resolved, Refusal> {
+        // SAFETY: each pointer and its length come from one slice; the
+        // output's is lent for writing.
+        let reply = unsafe {
+            ffi::opc_resolve_relationship(
+                self.buffer.as_ptr(),
+                self.buffer.len(),
+                source.as_ptr(),
+                source.len(),
+                id.as_ptr(),
+                id.len(),
+                base.as_ptr(),
+                base.len(),
+                out.as_mut_ptr(),
+                out.len(),
+            )
+        };
+        let [length, mode, held] = reply.values()?;
+        let mode = match mode {
+            0 => Mode::Internal,
+            _ => Mode::External,
+        };
+        Ok(Resolved {
+            length,
+            mode,
+            held: held != 0,
+        })
     }
 }
 

@@ -67,6 +67,7 @@ const MEDIA_TYPES: &[&[u8]] = &[b"a/b", b"image/tiff", b"application/octet-strea
 const IDS: &[&[u8]] = &[b"r1", b"R1", b"_", b"1"];
 const KINDS: &[&[u8]] = &[b"a:", b"http://example.com/mask", b"a"];
 const TARGETS: &[&[u8]] = &[b"b", b"../c.tiff", b"/a", b"_rels/.rels", b"a:b#c", b""];
+const BASES: &[&[u8]] = &[b"http://www.example.com/ex.opc", b"a:,,#f", b"a"];
 
 /// One of the texts in an allocation of its own length.
 fn text(random: &mut Random, texts: &[&[u8]]) -> Box<[u8]> {
@@ -124,7 +125,7 @@ fn call(random: &mut Random, seen: &mut Seen, buffer: &mut [u8]) -> u8 {
     let out_before = out.clone();
     let mut package = Package::open(buffer);
     let (name, other) = (name(random), name(random));
-    let answer: Result<(), Refusal> = match random.below(24) {
+    let answer: Result<(), Refusal> = match random.below(27) {
         0 => {
             let size = random.below(400);
             package.put_item(&name, &random.bytes(size).into_boxed_slice())
@@ -152,6 +153,14 @@ fn call(random: &mut Random, seen: &mut Seen, buffer: &mut [u8]) -> u8 {
         18..=19 => drop_field(random, &mut package),
         20..=21 => {
             let answer = package.media_type(&name, &mut out);
+            check_output(&answer, &out, &out_before);
+            answer.map(drop)
+        }
+        22..=24 => {
+            let (source, id) = (source(random), text(random, IDS));
+            let answer = package
+                .resolve_relationship(&source, &id, &text(random, BASES), &mut out)
+                .map(|resolved| resolved.length);
             check_output(&answer, &out, &out_before);
             answer.map(drop)
         }
@@ -356,11 +365,13 @@ fn is_no_package(buffer: &mut [u8]) {
     let put = package.put_relationship(b"/", b"r", b"a:", mode, b"b");
     assert_eq!(put, Err(one));
     assert_eq!(package.drop_relationship(b"/", b"r"), Err(one));
+    let resolved = package.resolve_relationship(b"/", b"r", b"a:", &mut out);
+    assert_eq!(resolved, Err(one));
     assert_eq!(out, [7; 40]);
     let capacity = CAPACITY_MAX + 1;
     assert_eq!(package.restart(capacity), Err(Refusal::BadStart));
     assert!(*buffer == before);
-    ENDED.fetch_add(17, Ordering::Relaxed);
+    ENDED.fetch_add(18, Ordering::Relaxed);
 }
 
 /// A buffer below 32,768 bytes is no package, whatever it holds; neither is
@@ -394,7 +405,7 @@ fn short_buffers_and_zeros() {
     }
     println!(
         "short buffers and zeros: {count} buffers, {} calls",
-        count * 17
+        count * 18
     );
     assert!(count > 600);
 }

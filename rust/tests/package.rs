@@ -41,6 +41,11 @@ enum Kind {
     MediaType,
     PutRelationship,
     DropRelationship,
+    Resolve,
+    /// A call that resolved an external target.
+    ResolvedExternal,
+    /// A call that led to a held part.
+    ResolvedHeld,
 }
 
 /// A call with its inputs; an output's length is one.
@@ -61,6 +66,7 @@ enum Call {
     MediaType(Vec<u8>, usize),
     PutRelationship(Relationship),
     DropRelationship(Vec<u8>, Vec<u8>),
+    Resolve(Resolve),
 }
 
 #[derive(Debug)]
@@ -70,6 +76,16 @@ struct Relationship {
     kind: Vec<u8>,
     mode: u64,
     target: Vec<u8>,
+}
+
+/// Which relationship to resolve, in which package, to an output of so many
+/// bytes.
+#[derive(Debug)]
+struct Resolve {
+    source: Vec<u8>,
+    id: Vec<u8>,
+    base: Vec<u8>,
+    length: usize,
 }
 
 impl Call {
@@ -90,6 +106,16 @@ impl Call {
             Call::MediaType(..) => Kind::MediaType,
             Call::PutRelationship(_) => Kind::PutRelationship,
             Call::DropRelationship(..) => Kind::DropRelationship,
+            Call::Resolve(_) => Kind::Resolve,
+        }
+    }
+
+    /// The kind, told apart by what was answered.
+    fn kind_answered(&self, answer: Answer) -> Kind {
+        match (self.kind(), answer) {
+            (Kind::Resolve, Ok([_, 1, _])) => Kind::ResolvedExternal,
+            (Kind::Resolve, Ok([_, _, 1])) => Kind::ResolvedHeld,
+            (kind, _) => kind,
         }
     }
 
@@ -125,6 +151,13 @@ impl Call {
             Call::DropRelationship(source, id) => {
                 format!("drop relationship {} {}", show(source), show(id))
             }
+            Call::Resolve(r) => format!(
+                "resolve {} {} in {}, output {}",
+                show(&r.source),
+                show(&r.id),
+                show(&r.base),
+                r.length
+            ),
         }
     }
 
@@ -134,6 +167,7 @@ impl Call {
             Call::Read(_, _, length) | Call::PartAt(_, length) | Call::MediaType(_, length) => {
                 *length
             }
+            Call::Resolve(r) => r.length,
             _ => 0,
         }
     }
@@ -142,7 +176,13 @@ impl Call {
     fn changes(&self) -> bool {
         !matches!(
             self.kind(),
-            Kind::Find | Kind::View | Kind::Read | Kind::PartAt | Kind::Totals | Kind::MediaType
+            Kind::Find
+                | Kind::View
+                | Kind::Read
+                | Kind::PartAt
+                | Kind::Totals
+                | Kind::MediaType
+                | Kind::Resolve
         )
     }
 }
@@ -235,6 +275,9 @@ fn by_archive(package: &mut Package, call: &Call, out: &mut [u8]) -> Answer {
         Call::DropRelationship(source, id) => {
             package.drop_relationship(source, id).map(|()| one(0))
         }
+        Call::Resolve(r) => package
+            .resolve_relationship(&r.source, &r.id, &r.base, out)
+            .map(|r| [r.length, r.mode.number() as usize, usize::from(r.held)]),
     };
     answer.map_err(numbers)
 }
@@ -265,6 +308,9 @@ fn by_reference(ledger: &mut Ledger, length: usize, call: &Call, out: &mut [u8])
             .put_relationship(&r.source, &r.id, &r.kind, r.mode, &r.target)
             .map(|()| one(0)),
         Call::DropRelationship(source, id) => ledger.drop_relationship(source, id).map(|()| one(0)),
+        Call::Resolve(r) => ledger
+            .resolve_relationship(&r.source, &r.id, &r.base, out)
+            .map(|r| [r.length, r.mode as usize, usize::from(r.held)]),
     };
     answer.map_err(|refusal| (refusal.number(), refusal.value()))
 }
@@ -332,6 +378,13 @@ const KINDS: &[&[u8]] = &[b"a:", b"http://example.com/mask", b"urn:x:y?z#f", b"A
 
 #[rustfmt::skip]
 const ODD_KINDS: &[&[u8]] = &[b"", b"a", b"/a:b", b":a", b"1a:b", b"a:[", b"a:b#c#d", b"#a:", b"a: b", b"a:%4", b"a:\xC3"];
+
+/// Package IRIs, to resolve relationships in.
+#[rustfmt::skip]
+const BASES: &[&[u8]] = &[
+    b"http://www.example.com/ex.opc", b"http://a/b/c/d;p?q#f", b"http://h", b"http://h?q", b"urn:x,y@z", b"a:", b"a:#f", b"a:/b/../c",
+    b"x:\xC3\xA9/%41%2f,", b"A+-.1://u@h:8/%25?/",
+];
 
 /// Targets, well-formed or not, in either mode or in one only.
 #[rustfmt::skip]
@@ -626,6 +679,35 @@ impl List {
         }
     }
 
+    /// A package IRI: short, of 253 to 256 bytes that all are escaped, or an
+    /// odd one.
+    fn base(&self, random: &mut Random) -> Vec<u8> {
+        match random.below(16) {
+            0 => filled(b"a:", b',', 253 + random.below(4)),
+            _ => field(random, BASES, ODD_KINDS),
+        }
+    }
+
+    /// Most often a held relationship, and an output that suffices.
+    fn resolve(&self, random: &mut Random) -> Resolve {
+        let (source, id) = match self.relationships.len() {
+            0 => (self.source(random), self.id(random)),
+            _ if random.once_in(4) => (self.source(random), self.id(random)),
+            count => self.relationships[random.below(count)].clone(),
+        };
+        let id = match random.below(16) {
+            0 => random.flip_case(&id), // ids are compared exactly
+            _ => id,
+        };
+        let length = random_length(random);
+        Resolve {
+            source: random.flip_case(&source),
+            id,
+            base: self.base(random),
+            length: random.pick(&[length, 1027]),
+        }
+    }
+
     /// A call on types or relationships.
     fn field_call(&self, random: &mut Random, room: usize) -> Call {
         let which = match self.style {
@@ -668,6 +750,7 @@ impl List {
                 Call::DropRelationship(random.flip_case(source), id)
             }
             65..=74 => Call::DropRelationship(self.source(random), self.id(random)),
+            75..=87 => Call::Resolve(self.resolve(random)),
             _ => {
                 let length = random_length(random);
                 Call::MediaType(self.part_name(random), random.pick(&[length, 127]))
@@ -797,14 +880,16 @@ impl Pair<'_> {
             _ => {}
         }
         let number = answer.err().map_or(0, |(number, _)| number);
-        *self.seen.entry((call.kind(), number)).or_insert(0) += 1;
+        let kind = call.kind_answered(answer);
+        *self.seen.entry((kind, number)).or_insert(0) += 1;
         self.told.push(call.show());
         answer
     }
 
     /// Asks everything that can be asked about what is held: each item, each
-    /// part at each position, its type, the totals, outputs of each length.
-    /// Then drops the types and relationships, one by one.
+    /// part at each position, its type, what each relationship leads to, the
+    /// totals, outputs of each length. Then drops the types and relationships,
+    /// one by one.
     fn sweep(&mut self, random: &mut Random, list: &List) {
         let names: BTreeSet<&Vec<u8>> = list.held.iter().collect();
         for name in names {
@@ -844,6 +929,7 @@ impl Pair<'_> {
                 }
             }
         }
+        self.sweep_relationships(random, list);
         for extension in list.extensions.iter().collect::<BTreeSet<_>>() {
             let call = Call::DropDefault(random.flip_case(extension));
             self.compare(random, &call).ok();
@@ -859,6 +945,30 @@ impl Pair<'_> {
             self.compare(random, &call).ok();
         }
         self.compare(random, &Call::Totals).expect("a package");
+    }
+
+    /// Resolves each relationship, and one of them to outputs of each length.
+    fn sweep_relationships(&mut self, random: &mut Random, list: &List) {
+        let keys: BTreeSet<_> = list.relationships.iter().collect();
+        let chosen = random.below(keys.len().max(1));
+        for (i, (source, id)) in keys.into_iter().enumerate() {
+            let base = random.pick(BASES);
+            let call = |length, source| {
+                Call::Resolve(Resolve {
+                    source,
+                    id: id.clone(),
+                    base: base.to_vec(),
+                    length,
+                })
+            };
+            let asked = random.flip_case(source);
+            let answer = self.compare(random, &call(1027, asked));
+            if let (Ok([length, ..]), true) = (answer, i == chosen) {
+                for short in 0..=length + 2 {
+                    self.compare(random, &call(short, source.clone())).ok();
+                }
+            }
+        }
     }
 }
 
@@ -1015,6 +1125,9 @@ fn fields_lists() {
             (Kind::MediaType, &[0, 3, 4, 13, 14]),
             (Kind::PutRelationship, &[0, 4, 5, 8, 9, 10, 15]),
             (Kind::DropRelationship, &[0, 4, 5, 8, 13]),
+            (Kind::Resolve, &[0, 3, 4, 5, 8, 9, 13]),
+            (Kind::ResolvedExternal, &[0]),
+            (Kind::ResolvedHeld, &[0]),
         ],
     );
 }
@@ -1080,6 +1193,79 @@ fn fields_at_the_limit() {
     assert_eq!(&out, b"a/b");
     let none = package.media_type(b"/n7", &mut out).map_err(numbers);
     assert_eq!(none, Err((14, 0)));
+}
+
+/// The paper's examples of resolving, and the answers beside the length, by
+/// hand.
+#[test]
+fn resolved_relationships() {
+    let mut buffer = vec![0; 1000 + OVERHEAD];
+    let mut package = Package::start(&mut buffer, 1000).expect("room");
+    let put = |package: &mut Package, source: &[u8], id: &[u8], mode, target: &[u8]| {
+        let put = package.put_relationship(source, id, b"a:", mode, target);
+        put.expect("room");
+    };
+    put(
+        &mut package,
+        b"/foo/test.xml",
+        b"i",
+        Mode::Internal,
+        b"b.xml",
+    );
+    put(
+        &mut package,
+        b"/foo/test.xml",
+        b"e",
+        Mode::External,
+        b"b.xml",
+    );
+    put(&mut package, b"/A/b/c", b"up", Mode::Internal, b"../../g");
+    put(&mut package, b"/A/b/c", b"near", Mode::Internal, b"D");
+    put(&mut package, b"/", b"i", Mode::Internal, b"a");
+    let base = b"http://www.example.com/ex.opc#f";
+    let resolve = |package: &Package, source: &[u8], id: &[u8]| {
+        let mut out = [0; 100];
+        let r = package.resolve_relationship(source, id, base, &mut out);
+        let r = r.expect("held");
+        let text = String::from_utf8_lossy(&out[..r.length]).into_owned();
+        (text, r.mode.number(), r.held)
+    };
+    let pack = |name: &str| format!("pack://http%3A,,www.example.com,ex.opc{name}");
+    let outside = "http://www.example.com/b.xml".to_string();
+    let asked: &[u8] = b"/FOO/test.XML";
+    let missing = (pack("/foo/b.xml"), 0, false);
+    assert_eq!(resolve(&package, asked, b"i"), missing);
+    assert_eq!(resolve(&package, asked, b"e"), (outside, 1, false));
+    assert_eq!(resolve(&package, b"/a/B/c", b"up"), (pack("/g"), 0, false));
+    assert_eq!(resolve(&package, b"/", b"i"), (pack("/a"), 0, false));
+    package.put_item(b"/Foo/B.xml", b"").expect("room");
+    let held = (pack("/foo/b.xml"), 0, true);
+    assert_eq!(resolve(&package, asked, b"i"), held);
+    // the path is spelt as the held source; pieces make a part once all are there
+    let near = pack("/A/b/D");
+    package.put_item(b"/a/b/d/[0].piece", b"").expect("room");
+    let none = (near.clone(), 0, false);
+    assert_eq!(resolve(&package, b"/a/b/C", b"near"), none);
+    let last = package.put_item(b"/a/b/d/[1].last.piece", b"");
+    last.expect("room");
+    assert_eq!(resolve(&package, b"/a/b/C", b"near"), (near, 0, true));
+    for (source, id, base, number) in [
+        ("x", "1", "", 4),
+        ("/_rels/.rels", "1", "", 5),
+        ("/foo/test.xml", "1", "", 8),
+        ("/foo/test.xml", "I", "b", 9),
+        ("/foo/test.xml", "I", "a:b", 13),
+        ("/foo", "i", "a:b", 13),
+        ("/foo/test.xml", "i", "a:b", 3),
+    ] {
+        let mut out = [7; 10];
+        let [source, id, base] = [source, id, base].map(str::as_bytes);
+        let answer = package.resolve_relationship(source, id, base, &mut out);
+        let needed = if number == 3 { 22 } else { 0 };
+        let refusal = answer.map_err(numbers).err();
+        assert_eq!(refusal, Some((number, needed)));
+        assert_eq!(out, [7; 10]);
+    }
 }
 
 /// The set of items at its limit, by hand.
