@@ -1,6 +1,6 @@
 // Writing into a lent output.
 ghost use mathlib.Core.Path.{_≡_};
-ghost use Prim.Native.Nat.{ℕ, _≤_};
+ghost use Prim.Native.Nat.{ℕ, _^_, _≤_};
 ghost use lib.ListN.{length, take};
 ghost use Rattle.iri.specs.Answers.{Text, ofWritten, written};
 ghost use Rattle.iri.specs.Scratch.{Sent};
@@ -14,7 +14,7 @@ pub enum Written {
 
 // Sends bytes to place at of out: writes them where all fit, and says the next place in any case.
 pub fn emit(out: &mut [u8], at: usize, bytes: &[u8]) -> usize
-    requires { ⌜ (at ≤ 65536) × (length (now bytes) ≤ 65536) ⌝ }
+    requires { ⌜ (at ≤ 2 ^ 60) × (length (now bytes) ≤ 2 ^ 60) ⌝ }
     ensures { λ r. ⌜ Sent (now (out .entry)) at (now (bytes .entry)) r (now (out .exit)) ⌝ }
 {
     let next = at + bytes.len();

@@ -1,6 +1,6 @@
 -- What is sent for a printed line, field by field.
 -- Assumes nothing.
-use Prim.Native.Nat.{ℕ, suc, _+_, _-_, _/_, _%_, _≤_, _<_}
+use Prim.Native.Nat.{ℕ, suc, _+_, _-_, _/_, _%_, _^_, _≤_, _<_}
 use mathlib.Core.Path.{_≡_, refl, sym, ap, _∙_}
 use mathlib.Core.List.{List, [], _∷_, _++_, append-assoc}
 use mathlib.Core.Option.{Option, some}
@@ -38,7 +38,7 @@ module _ (o o₁ o₂ : Bytes) (at w m n : ℕ) (some : 0 < w) (l : length o₁ 
       sent-as o o₂ (padded (w - 1) (v / 10) ++ (48 + v % 10) ∷ []) (column w v) at n (ap (λ (k : ℕ). column k v) (sym up) ∙ column-suc (w - 1) v)
       (sent-more o o₁ o₂ (padded (w - 1) (v / 10)) ((48 + v % 10) ∷ []) at m n r l s)
 
-pub padded-near : (o o₁ : Bytes) (at w v m : ℕ) → Sent o at (padded (w - 1) v) m o₁ → at ≤ 1000 → w ≤ 8 → m ≤ 65536
+pub padded-near : (o o₁ : Bytes) (at w v m : ℕ) → Sent o at (padded (w - 1) v) m o₁ → at ≤ 1000 → w ≤ 8 → m ≤ 2 ^ 60
 padded-near o o₁ at w v m s h k = omega (arith, s .next-is, padded-length (w - 1) v)
 
 pub number-next : (o o₁ : Bytes) (at w v m : ℕ) → 0 < w → Sent o at (column w v) m o₁ → m ≡ at + w
