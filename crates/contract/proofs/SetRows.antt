@@ -119,7 +119,7 @@ module _ {E : Type 0} (key : E → Key) (row : E → Row) (n : ℕ) (is : (x : E
     set-insert (r ∷ a) b xs lo hi = rw (lesser-row r (lo .0)) (ap (λ (l : List Row). r ∷ l) (set-insert a b xs (lo .1) hi))
 
 -- HOW MANY. No key is before the empty one
-none-before : (k : Key) → before k ([], []) ≡ false
+pub none-before : (k : Key) → before k ([], []) ≡ false
 unfolding keyOrder thenBy order
 none-before k = go (k .0) (k .1)
   where

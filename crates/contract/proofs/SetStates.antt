@@ -55,10 +55,10 @@ module _ (S : State) where
   abbrev R : List Row
   R = map relationshipRow (S .relationships)
 
-  items-under : (n : ℕ) → 0 < n → Each (λ (r : Row). setOf (r .tag) < n) I
+  pub items-under : (n : ℕ) → 0 < n → Each (λ (r : Row). setOf (r .tag) < n) I
   items-under n h = each-of itemRow (λ (r : Row). setOf (r .tag) < n) (λ i. omega (arith, item-row-set i)) (S .items)
 
-  defaults-under : (n : ℕ) → 1 < n → Each (λ (r : Row). setOf (r .tag) < n) D
+  pub defaults-under : (n : ℕ) → 1 < n → Each (λ (r : Row). setOf (r .tag) < n) D
   defaults-under n h = each-of defaultRow (λ (r : Row). setOf (r .tag) < n) (λ d. omega (arith, default-row-set d)) (S .defaults)
 
   pub defaults-among : Among keyOfDefault defaultRow 1 S (S .defaults) (withDefaults S)
@@ -91,7 +91,7 @@ module _ (S : State) where
     capacity = λ _. refl;
   }
 
-  pub relationships-among : Among keyOfRelationship relationshipRow 3 S (S .relationships) (withRelationships S)
+  unfoldable pub relationships-among : Among keyOfRelationship relationshipRow 3 S (S .relationships) (withRelationships S)
   unfolding rowsFor otherRows
   relationships-among = record {
     front = I ++ (D ++ O);

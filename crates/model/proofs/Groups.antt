@@ -1,26 +1,37 @@
 -- The items of a group stand side by side, by number; so do the relationships of a source, by id.
 -- Assumes nothing.
-use Prim.Native.Nat.{ℕ, _<_}
+use Prim.Native.Nat.{ℕ, _≤_, _<_}
+use Prim.Native.Char.{code}
 use mathlib.Core.Path.{_≡_, refl, ap, sym, _∙_}
-use mathlib.Core.Bool.{Bool, true, false, not, _&&_, cond}
+use mathlib.Core.Bool.{Bool, true, false, not, _&&_, _||_, cond, true≢false}
 use mathlib.Core.List.{List, [], _∷_}
 use native.Mathlib.Omega.{arith}
-use lib.Dec.{ltb}
+use lib.Dec.{ltb, eqb}
 use lib.ListN.{length, getD, take, drop}
-use borrow.Author.Tests.{le-ltb}
-use Rattle.chars.specs.Lists.{same}
+use lib.Seq.{slice}
+use borrow.Author.Tests.{le-ltb, lt-ltb, ltb-true, ltb-false, le-leb, lt-leb, ne-eqb, not-false}
+use Rattle.chars.specs.Bytes.{underscore, within, letter, member}
+use Rattle.chars.specs.Lists.{same, every}
 use Rattle.chars.specs.Folding.{fold, equivalent, order}
 use Rattle.chars.proofs.Equivalence.{equivalent-fold, equivalent-refl}
 use Rattle.chars.proofs.Orders.{order-refl}
+use Rattle.chars.proofs.Bools.{and-left, and-right}
+use Rattle.chars.specs.declared.folding.Order.{Order}
 use Rattle.chars.specs.declared.folding.Order.the-variants.{Less, Equal, Greater}
-use Rattle.model.specs.Sets.{Bytes, thenBy, keyOrder, isLess, before, any, Each, Pairs, Sorted}
+use Rattle.chars.specs.declared.search.Alphabet.the-variants.{Id}
+use Rattle.names.specs.Types.{identifier}
+use Rattle.model.specs.Sets.{Bytes, thenBy, keyOrder, isLess, isEqual, before, any, Each, Pairs, Sorted}
 use Rattle.model.specs.Places.{bound, lead}
-use Rattle.model.specs.Fields.{prefixOf, suffixOf}
+use Rattle.model.specs.Fields.{prefixOf, suffixOf, relationshipFields}
 use Rattle.model.specs.Package.{Item, Relationship, rank, keyOfItem, keyOfRelationship, group}
 use Rattle.model.specs.Texts.{ofSource}
-use Rattle.model.proofs.Lists.{pairs-those}
+use Rattle.model.specs.Good.{fieldsOfRelationship}
+use Rattle.model.proofs.Lists.{each-map, pairs-those}
+use Rattle.model.proofs.Refusals.{all-none, unmet}
+use Rattle.model.proofs.Walks.{Parted, those-between}
+use Rattle.model.proofs.Places.{not-before-monotone}
 use Rattle.model.proofs.KeyOrders.{goes-on-less}
-use Rattle.model.proofs.Keys.{number-less}
+use Rattle.model.proofs.Keys.{order-same, number-less}
 use Rattle.model.proofs.Spans.{span-past, span-from, span, headed-bound}
 
 -- the test of a group
@@ -57,13 +68,14 @@ least-rank t n = rw (order-refl t, le-ltb n 0 (omega arith)) (go (ltb 0 n))
     go true = refl
     go false = refl
 
+least-text : (u : Bytes) → isLess (order u []) ≡ false
+unfolding order
+least-text [] = refl
+least-text (x ∷ u) = refl
+
 least-id : (t u : Bytes) → before (t, u) (t, []) ≡ false
-unfolding keyOrder thenBy order
-least-id t u = rw (order-refl t) (go u)
-  where
-    go : (u : Bytes) → isLess (order u []) ≡ false
-    go [] = refl
-    go (x ∷ u) = refl
+unfolding keyOrder thenBy
+least-id t u = rw (order-refl t) (least-text u)
 
 least-item : (p : Bytes) (i : Item) → fold (prefixOf (i .name)) ≡ fold p → before (keyOfItem i) (fold p, 0 ∷ []) ≡ false
 least-item p i e = ap (λ (t : Bytes). before (t, rank (suffixOf (i .name)) ∷ []) (fold p, 0 ∷ [])) e ∙ least-rank (fold p) (rank (suffixOf (i .name)))
@@ -92,6 +104,60 @@ source-run s rs o = span keyOfRelationship (fold s) [] least rs o
   where
     least : (r : Relationship) → fold (r .source) ≡ fold s → before (keyOfRelationship r) (fold s, []) ≡ false
     least r e = ap (λ (t : Bytes). before (t, r .id) (fold s, [])) e ∙ least-id (fold s) (r .id)
+
+-- every id is before `~`, which is above all letters and `_`
+abbrev pub tilde : ℕ
+tilde = code "~"
+
+lead-small : (x : ℕ) → (letter x || eqb x underscore) ≡ true → x < tilde
+unfolding letter
+lead-small x e = go (ltb x tilde) refl
+  where
+    go : (b : Bool) → ltb x tilde ≡ b → x < tilde
+    go true f = ltb-true x tilde f
+    go false f =
+        let l : 126 ≤ x = ltb-false x tilde f in
+        absurd (true≢false (sym e ∙ rw (le-leb 65 x (omega arith), lt-leb x 90 (omega arith), le-leb 97 x (omega arith), lt-leb x 122 (omega arith), ne-eqb x underscore (λ z. omega arith))))
+
+id-before : (i : Bytes) → identifier i ≡ true → order i (tilde ∷ []) ≡ Less
+unfolding order identifier
+id-before [] e = refl
+id-before (x ∷ i) e =
+    let w = within 1 63 (length (x ∷ i)) in
+    let f = letter x || eqb x underscore in
+    rw (lt-ltb x tilde (lead-small x (and-right w f (and-left (w && f) (every (member Id) (x ∷ i)) e))))
+
+relationship-id : (r : Relationship) → fieldsOfRelationship r ≡ 0 → identifier (r .id) ≡ true
+unfolding relationshipFields
+relationship-id r z = not-false (identifier (r .id)) (unmet (not (identifier (r .id))) 8 (omega arith) (all-none _ z .1 .0))
+
+-- so the relationships of a source are those between two bounds
+pub source-between :
+    (s : Bytes) (rs : List Relationship) → Sorted keyOfRelationship rs → Each (λ (r : Relationship). fieldsOfRelationship r ≡ 0) rs →
+    ofSource s rs
+    ≡ slice (bound keyOfRelationship (fold s, []) rs) (bound keyOfRelationship (fold s, tilde ∷ []) rs) rs
+unfolding keyOrder thenBy equivalent
+source-between s rs o z =
+    those-between p q eqv rs (not-before-monotone keyOfRelationship (fold s, []) rs o) (not-before-monotone keyOfRelationship (fold s, tilde ∷ []) rs o)
+    (each-map (λ (r : Relationship). fieldsOfRelationship r ≡ 0) (Parted p q eqv) rs (λ r h. parted r (id-before (r .id) (relationship-id r h))) z)
+  where
+    p : Relationship → Bool
+    p r = not (before (keyOfRelationship r) (fold s, []))
+
+    q : Relationship → Bool
+    q r = not (before (keyOfRelationship r) (fold s, tilde ∷ []))
+
+    eqv : Relationship → Bool
+    eqv r = equivalent (r .source) s
+
+    parted : (r : Relationship) → order (r .id) (tilde ∷ []) ≡ Less → Parted p q eqv r
+    parted r l = rw (l, ← order-same (fold (r .source)) (fold s)) (go (order (fold (r .source)) (fold s)))
+      where
+        go : (o : Order) → (not (isLess (thenBy o Less)) ≡ true → not (isLess (thenBy o (order (r .id) []))) ≡ true)
+            × (isEqual o ≡ (not (isLess (thenBy o (order (r .id) []))) && not (not (isLess (thenBy o Less)))))
+        go Less = ((λ e. e), refl)
+        go Equal = rw (least-text (r .id)) ((λ e. refl), refl)
+        go Greater = ((λ e. refl), refl)
 
 -- the pieces of a group stand by number: "the pieces joined by number"
 pub group-numbered : (p : Bytes) (xs : List Item) → Sorted keyOfItem xs → Pairs (λ (i j : Item). rank (suffixOf (i .name)) < rank (suffixOf (j .name))) (group p xs)

@@ -29,7 +29,7 @@ number-less m n e = go (ltb m n) refl (ltb n m) e
     go false f true h = absurd (less-greater (sym h))
     go false f false h = absurd (less-equal (sym h))
 
-order-same : (a b : Bytes) → isEqual (order a b) ≡ same a b
+pub order-same : (a b : Bytes) → isEqual (order a b) ≡ same a b
 unfolding order same
 order-same [] [] = refl
 order-same [] (y ∷ b) = refl

@@ -14,7 +14,7 @@ use Rattle.model.specs.Texts.{ampersand, quotedByte, quoted, defaultLine
 use Rattle.model.specs.Good.{Good}
 use Rattle.model.proofs.Lists.{length-those, sum-those}
 
-quoted-length : (s : Bytes) → length (quoted s) ≤ 5 * length s
+pub quoted-length : (s : Bytes) → length (quoted s) ≤ 5 * length s
 unfolding quoted joined
 quoted-length [] = omega arith
 quoted-length (b ∷ s) = go (eqb b ampersand) (quoted-length s)

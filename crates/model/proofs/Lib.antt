@@ -15,6 +15,7 @@ pub mod Steps
 pub mod Kept
 pub mod CallLists
 pub mod Contents
+pub mod Joins
 pub mod Lengths
 pub mod Targets
 pub mod Spans

@@ -7,7 +7,7 @@ use mathlib.Core.List.{List, [], _∷_, _++_, map}
 use native.Mathlib.Omega.{arith}
 use lib.Dec.{ltb}
 use lib.ListN.{length, getD, take, drop, length-drop}
-use lib.Seq.{length-take-le, getD-take, getD-drop}
+use lib.Seq.{slice, length-take-le, getD-take, getD-drop, drop-nil, take-append-add, drop-append-add}
 use borrow.Author.Tests.{ltb-true, ltb-false, lt-ltb, le-ltb}
 use Rattle.model.specs.Sets.{any, those, sumOf, Each, Pairs}
 use Rattle.model.proofs.Bools.{or-false-left, or-false-right, not-passing}
@@ -74,6 +74,16 @@ module _ {E : Type 0} where
   pub append-nil : (xs : List E) → xs ++ [] ≡ xs
   append-nil [] = refl
   append-nil (x ∷ xs) = ap (λ (l : List E). x ∷ l) (append-nil xs)
+
+  -- SLICES
+  pub slice-map : {F : Type 0} (f : F → E) (m n : ℕ) (xs : List F) → slice m n (map f xs) ≡ map f (slice m n xs)
+  slice-map f m zero xs = drop-nil m ∙ sym (ap (map f) (drop-nil m))
+  slice-map f m (suc n) [] = drop-nil m ∙ sym (ap (map f) (drop-nil m))
+  slice-map f zero (suc n) (x ∷ xs) = ap (λ (l : List E). f x ∷ l) (slice-map f zero n xs)
+  slice-map f (suc m) (suc n) (x ∷ xs) = slice-map f m n xs
+
+  pub slice-append : (xs ys : List E) (m n : ℕ) → slice (length xs + m) (length xs + n) (xs ++ ys) ≡ slice m n ys
+  slice-append xs ys m n = ap (drop (length xs + m)) (take-append-add xs ys n) ∙ drop-append-add xs (take n ys) m
 
   -- ANY
   pub any-none : (p : E → Bool) (xs : List E) → any p xs ≡ false → Each (λ (x : E). p x ≡ false) xs

@@ -2,17 +2,17 @@
 -- Assumes nothing.
 use Prim.Native.Nat.{ℕ, zero, suc, _+_, _≤_, _<_}
 use mathlib.Core.Path.{_≡_, refl, ap, sym, _∙_}
-use mathlib.Core.Bool.{Bool, true, false, not, _||_, cond, true≢false}
+use mathlib.Core.Bool.{Bool, true, false, not, _&&_, _||_, cond, true≢false}
 use mathlib.Core.List.{List, [], _∷_, _++_, map}
 use native.Mathlib.Omega.{arith}
 use native.Mathlib.Numerals.{add-one}
 use lib.Dec.{ltb}
 use lib.ListN.{length, getD, take, drop}
-use lib.Seq.{drop-cons, drop-length}
+use lib.Seq.{slice, drop-cons, drop-length}
 use borrow.Author.Tests.{ltb-true, ltb-false, not-false}
-use Rattle.model.specs.Sets.{any, Each, Pairs}
+use Rattle.model.specs.Sets.{any, those, Each, Pairs}
 use Rattle.model.specs.Places.{firstWhere, lead}
-use Rattle.model.proofs.Lists.{each-map, each-at}
+use Rattle.model.proofs.Lists.{each-map, each-both, each-at, those-none}
 
 module _ {E : Type 0} where
   module _ (p : E → Bool) where
@@ -186,3 +186,40 @@ module _ {E : Type 0} where
       nots : (ys : List E) → Each (λ (x : E). not (p x) ≡ false) ys → Each (λ (x : E). p x ≡ true) ys
       nots [] h = tt
       nots (y ∷ ys) h = (not-false (p y) (h .0), nots ys (h .1))
+
+  -- BETWEEN TWO FIRSTS: those that pass p and not q, where both tests, once passed, are passed by all that follow, and what passes q passes p
+  first-none : (p : E → Bool) (xs : List E) → Each (λ (x : E). p x ≡ true) xs → firstWhere p xs ≡ 0
+  unfolding firstWhere
+  first-none p [] h = refl
+  first-none p (x ∷ xs) h = rw (h .0)
+
+  module _ (p q r : E → Bool) where
+    abbrev pub Parted : E → Type 0
+    Parted x = (q x ≡ true → p x ≡ true) × (r x ≡ (p x && not (q x)))
+
+    past : (y : E) → q y ≡ true → Parted y → r y ≡ false
+    past y e h = h .1 ∙ ap (λ (b : Bool). p y && not b) e ∙ go (p y)
+      where
+        go : (b : Bool) → (b && false) ≡ false
+        go true = refl
+        go false = refl
+
+    pub those-between : (xs : List E) → Monotone p xs → Monotone q xs → Each Parted xs → those r xs ≡ slice (firstWhere p xs) (firstWhere q xs) xs
+    unfolding those firstWhere
+    those-between [] a b c = refl
+    those-between (x ∷ xs) a b c = ap (λ (t : Bool). cond t (x ∷ those r xs) (those r xs)) (c .0 .1) ∙ go (p x) refl (q x) refl (those-between xs (a .1) (b .1) (c .1))
+      where
+        m : ℕ
+        m = firstWhere p xs
+
+        n : ℕ
+        n = firstWhere q xs
+
+        go : (s : Bool) → p x ≡ s → (t : Bool) → q x ≡ t → those r xs ≡ slice m n xs
+            → cond (s && not t) (x ∷ those r xs) (those r xs) ≡ slice (cond s 0 (suc m)) (cond t 0 (suc n)) (x ∷ xs)
+        go true e true f ih = those-none r xs (each-both (λ (y : E). q x ≡ true → q y ≡ true) Parted (λ (y : E). r y ≡ false) xs (λ y g h. past y (g f) h) (b .0) (c .1))
+        go true e false f ih =
+            let z : m ≡ 0 = first-none p xs (each-map (λ (y : E). p x ≡ true → p y ≡ true) (λ (y : E). p y ≡ true) xs (λ y g. g e) (a .0)) in
+            ap (λ (l : List E). x ∷ l) (ih ∙ ap (λ (k : ℕ). slice k n xs) z)
+        go false e true f ih = absurd (true≢false (sym (c .0 .0 f) ∙ e))
+        go false e false f ih = ih
