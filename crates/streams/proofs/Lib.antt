@@ -1,0 +1,5 @@
+pub mod Quoting
+pub mod LineTexts
+pub mod RowListings
+pub mod StreamAnswers
+pub mod StreamCalls

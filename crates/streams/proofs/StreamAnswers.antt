@@ -1,0 +1,54 @@
+-- A stream that is sent, and the answer of a call that writes it in two passes.
+-- Assumes nothing.
+use Prim.Native.Nat.{ℕ, _≤_, _<_}
+use mathlib.Core.Path.{_≡_, refl, sym, _∙_}
+use mathlib.Core.Bool.{true}
+use mathlib.Core.List.{List, [], _++_}
+use lib.ListN.{length}
+use Rattle.iri.specs.Answers.{Answer, ofWritten}
+use Rattle.iri.specs.Answers as iri
+use Rattle.iri.specs.Scratch.{Sent}
+use Rattle.iri.specs.declared.writing.Written.the-variants as written
+use Rattle.iri.proofs.Sending.{sent-more, sent-as, append-none, dry-short, dry-bytes}
+use Rattle.model.specs.Sets.{Bytes}
+use Rattle.model.specs.Package.{State}
+use Rattle.model.specs.Texts.{declaration}
+use Rattle.model.specs.Calls.{Print, Prints, Text, printed, valueCount}
+use Rattle.store.specs.Layout.{countOf}
+use Rattle.store.specs.Rows.{rowsOf}
+use Rattle.store.specs.Packages.{isPackage}
+use Rattle.contract.specs.Holds.{Holds}
+use Rattle.contract.specs.Ran.{Ran}
+use Rattle.contract.proofs.Rans.{wrote}
+use Rattle.parts.proofs.TextAnswers.{text-filled}
+use Rattle.streams.specs.Streams.{linesOf, streamOf, Listed, Streamed, Answered}
+
+pub streamed : (b : List ℕ) (f t : ℕ) (head foot o o₁ o₂ o₃ o₄ : Bytes) (m₁ m₂ m₃ m₄ : ℕ) → length o₁ ≡ length o → length o₂ ≡ length o₁ → length o₃ ≡ length o₂
+    → Sent o 0 declaration m₁ o₁ → Sent o₁ m₁ head m₂ o₂ → Listed b f t o₂ m₂ m₃ o₃ → Sent o₃ m₃ foot m₄ o₄ → Streamed b f t head foot o m₄ o₄
+streamed b f t head foot o o₁ o₂ o₃ o₄ m₁ m₂ m₃ m₄ l₁ l₂ l₃ s₁ s₂ x s₄ = record {
+  is = λ so k.
+      let L = linesOf f t (rowsOf b) in
+      sent-more o o₁ o₄ declaration (head ++ (L ++ foot)) 0 m₁ m₄ s₁ l₁
+      (sent-more o₁ o₂ o₄ head (L ++ foot) m₁ m₂ m₄ s₂ l₂
+      (sent-more o₂ o₃ o₄ L foot m₂ m₃ m₄ (sent-as o₂ o₃ (x .text) L m₂ m₃ (sym (x .is so k)) (x .sent)) l₃ s₄));
+}
+
+-- n is the length that the first pass over no bytes tells, ys what it left of them
+module _ (b : List ℕ) (f t : ℕ) (head foot : Bytes) (k : t ≤ countOf b) (w ys out : Bytes) (n : ℕ) (x : Streamed b f t head foot w n ys) (z : length ys ≡ 0) where
+  pub answered-short : length (ys ++ out) < n → Answered b f t head foot out (ofWritten (written.Short n) (ys ++ out))
+  answered-short l = record {
+    kept = λ _. append-none ys out z;
+    is = λ so. let T = streamOf b f t head foot in dry-short (iri.Text T) T w ys out n refl (x .is so k) z l;
+  }
+
+  pub answered-bytes : n ≤ length (ys ++ out) → (m : ℕ) (out' : Bytes) → Streamed b f t head foot (ys ++ out) m out' → Answered b f t head foot out (ofWritten (written.Bytes m) out')
+  answered-bytes l m out' y = record {
+    kept = λ r. absurd (r refl);
+    is = λ so. let T = streamOf b f t head foot in dry-bytes (iri.Text T) T w ys out n refl (x .is so k) z m out' l (y .is so k);
+  }
+
+-- such an answer is the ledger's, where the ledger prints the stream
+pub stream-ran : (b : List ℕ) → isPackage b ≡ true → (w : Print) → valueCount w ≡ 1 → (out : Bytes) (f t : ℕ) (head foot : Bytes) (a : Answer) → Answered b f t head foot out a
+    → ((S : State) → Holds b S → printed S (length out) w ≡ Text (streamOf b f t head foot) []) → Ran (Prints w out) b a b
+stream-ran b o w v out f t head foot a x e =
+    wrote b o w out a (x .kept) (λ S h. rw (e S h, v) (x .is (h .lies .sound) ∙ text-filled (streamOf b f t head foot) out))

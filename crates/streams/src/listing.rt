@@ -1,0 +1,64 @@
+// A stream with the lines of a run of rows.
+use crate::markup::put_relationship;
+use crate::markup::put_type;
+use iri::writing::Written;
+use iri::writing::emit;
+use store::rows::field;
+use store::rows::tag;
+ghost use Prim.Native.Nat.{_^_, _≤_};
+ghost use lib.ListN.{length};
+ghost use Rattle.iri.specs.Answers.{ofWritten};
+ghost use Rattle.store.specs.Layout.{slotCount, countOf};
+ghost use Rattle.streams.specs.Streams.{Lined, Listed, Streamed, Answered};
+
+// The line of row i.
+fn put_line(pkg: &[u8], i: usize, out: &mut [u8], at: usize) -> usize
+    requires { ⌜ at ≤ 2 ^ 53 ⌝ }
+    ensures { λ r. ⌜ Lined (now (pkg .entry)) i (now (out .entry)) at r (now (out .exit)) ⌝ }
+{
+    let t = tag(pkg, i);
+    if t == 32768 {
+        return put_type(out, at, b"<Default Extension=\"", field(pkg, i, 0), field(pkg, i, 1));
+    }
+    if t == 32769 {
+        return put_type(out, at, b"<Override PartName=\"", field(pkg, i, 0), field(pkg, i, 1));
+    }
+    put_relationship(out, at, t, field(pkg, i, 1), field(pkg, i, 2), field(pkg, i, 3))
+}
+
+// The lines of the rows from one up to, not including, the row `to`.
+fn put_lines(pkg: &[u8], from: usize, to: usize, out: &mut [u8], start: usize) -> usize
+    requires { ⌜ (to ≤ slotCount) × (start ≤ 2 ^ 52) ⌝ }
+    ensures { λ r. ⌜ Listed (now (pkg .entry)) from to (now (out .entry)) start r (now (out .exit)) ⌝ }
+{
+    let mut at = start;
+    let mut i = from;
+    while i < to {
+        at = put_line(pkg, i, out, at);
+        i += 1;
+    }
+    at
+}
+
+// The whole stream: the lines between a head and a foot.
+fn put_stream(pkg: &[u8], from: usize, to: usize, head: &[u8], foot: &[u8], out: &mut [u8]) -> usize
+    requires { ⌜ (to ≤ slotCount) × (length (now head) ≤ 1000) × (length (now foot) ≤ 1000) ⌝ }
+    ensures { λ r. ⌜ Streamed (now (pkg .entry)) from to (now (head .entry)) (now (foot .entry)) (now (out .entry)) r (now (out .exit)) ⌝ }
+{
+    let a = emit(out, 0, b"<?xml version=\"1.0\" encoding=\"UTF-8\"?>\n");
+    let b = emit(out, a, head);
+    let c = put_lines(pkg, from, to, out, b);
+    emit(out, c, foot)
+}
+
+// The answer of a call that writes such a stream. A first pass over none of the output tells the length.
+pub(crate) fn write_stream(pkg: &[u8], from: usize, to: usize, head: &[u8], foot: &[u8], out: &mut [u8]) -> Written
+    requires { ⌜ (to ≤ countOf (now pkg)) × (to ≤ slotCount) × (length (now head) ≤ 1000) × (length (now foot) ≤ 1000) ⌝ }
+    ensures { λ r. ⌜ Answered (now (pkg .entry)) from to (now (head .entry)) (now (foot .entry)) (now (out .entry)) (ofWritten r (now (out .exit))) ⌝ }
+{
+    let need = put_stream(pkg, from, to, head, foot, &mut out[..0]);
+    if out.len() < need {
+        return Written::Short(need);
+    }
+    Written::Bytes(put_stream(pkg, from, to, head, foot, out))
+}
