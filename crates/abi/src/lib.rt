@@ -4,3 +4,4 @@ pub mod fields;
 pub mod iris;
 pub mod judgements;
 pub mod replies;
+pub mod xml;

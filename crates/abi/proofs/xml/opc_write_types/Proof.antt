@@ -1,0 +1,18 @@
+use borrow.Author.Needs.{needs}
+use Rattle.abi.proofs.xml.opc_write_types.Statement.{statement}
+use Rattle.abi.proofs.xml.opc_write_types.Tie as tie
+
+write-types-requires : tie.Need-write-types-requires
+write-types-requires c κs = search needs
+
+of-written-requires : tie.Need-of-written-requires
+of-written-requires c κs = search needs
+
+same-length : tie.Need-same-length
+same-length c = search needs
+
+returns : tie.Need-returns
+returns c = rw (c .of-written .ensures) (c .before .before .before .write-types .ensures)
+
+pub opc-write-types-spec : {M : Type 1} → statement M
+opc-write-types-spec = tie.close (tie.spec write-types-requires of-written-requires same-length returns)
