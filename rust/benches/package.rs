@@ -305,6 +305,63 @@ fn resolves() {
     }
 }
 
+/// Streams of 40 types and of 100 relationships, beside as many of another source.
+fn streams() {
+    let mut buffer = buffer();
+    let mut pair = Pair::new(&mut buffer);
+    let Pair { package, ledger } = &mut pair;
+    let (media_type, kind) = (
+        b"image/vnd.example.tile+tiff",
+        b"http://example.com/2026/tile",
+    );
+    for i in 0..20 {
+        let extension = format!("ext{i}").into_bytes();
+        package.put_default(&extension, media_type).expect("room");
+        ledger.put_default(&extension, media_type).expect("room");
+        package.put_override(&tile(i), media_type).expect("room");
+        ledger.put_override(&tile(i), media_type).expect("room");
+    }
+    let source = b"/slides/2026/ovary-17/index";
+    for i in 0..200 {
+        let source = if i % 2 == 0 {
+            &source[..]
+        } else {
+            b"/slides/2026/other"
+        };
+        let id = format!("r{i}").into_bytes();
+        let target = format!("tiles/L3/r{i}&c=044.tiff").into_bytes();
+        let put = package.put_relationship(source, &id, kind, Mode::Internal, &target);
+        put.expect("room");
+        let put = ledger.put_relationship(source, &id, kind, 0, &target);
+        put.expect("room");
+    }
+    let (mut out, mut other) = (vec![0; 1 << 16], vec![0; 1 << 16]);
+    support::compare(
+        "write types, 40",
+        2000,
+        1,
+        |_| package.write_types(&mut out).expect("a package"),
+        |_| ledger.write_types(&mut other).expect("a package"),
+    );
+    assert_eq!(out, other);
+    support::compare(
+        "write relationships, 100",
+        1000,
+        1,
+        |_| {
+            package
+                .write_relationships(source, &mut out)
+                .expect("a source")
+        },
+        |_| {
+            ledger
+                .write_relationships(source, &mut other)
+                .expect("a source")
+        },
+    );
+    assert_eq!(out, other);
+}
+
 fn reads() {
     let mut buffer = buffer();
     let mut pair = Pair::new(&mut buffer);
@@ -383,6 +440,7 @@ fn main() {
     walks();
     fields();
     resolves();
+    streams();
     println!(
         "find among 256 against 16: archive {:.2} times, reference {:.2} times",
         archive_256 / archive_16,

@@ -196,3 +196,21 @@ extern "C" {
         out_length: usize,
     ) -> Reply;
 }
+
+// The streams.
+extern "C" {
+    pub(crate) fn opc_write_types(
+        package: *const u8,
+        package_length: usize,
+        out: *mut u8,
+        out_length: usize,
+    ) -> Reply;
+    pub(crate) fn opc_write_relationships(
+        package: *const u8,
+        package_length: usize,
+        source: *const u8,
+        source_length: usize,
+        out: *mut u8,
+        out_length: usize,
+    ) -> Reply;
+}

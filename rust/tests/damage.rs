@@ -125,7 +125,7 @@ fn call(random: &mut Random, seen: &mut Seen, buffer: &mut [u8]) -> u8 {
     let out_before = out.clone();
     let mut package = Package::open(buffer);
     let (name, other) = (name(random), name(random));
-    let answer: Result<(), Refusal> = match random.below(27) {
+    let answer: Result<(), Refusal> = match random.below(30) {
         0 => {
             let size = random.below(400);
             package.put_item(&name, &random.bytes(size).into_boxed_slice())
@@ -162,6 +162,20 @@ fn call(random: &mut Random, seen: &mut Seen, buffer: &mut [u8]) -> u8 {
                 .resolve_relationship(&source, &id, &text(random, BASES), &mut out)
                 .map(|resolved| resolved.length);
             check_output(&answer, &out, &out_before);
+            answer.map(drop)
+        }
+        25..=27 => {
+            let mut out = random.bytes(length * 12).into_boxed_slice();
+            let before = out.clone();
+            let answer = match random.below(3) {
+                0 => package.write_types(&mut out),
+                _ => package.write_relationships(&source(random), &mut out),
+            };
+            check_output(&answer, &out, &before);
+            assert!(
+                answer.is_ok() || out == before,
+                "a refusal changed the output"
+            );
             answer.map(drop)
         }
         _ => package.totals().map(drop),
@@ -361,6 +375,8 @@ fn is_no_package(buffer: &mut [u8]) {
     assert_eq!(package.put_override(b"/a", b"a/b"), Err(one));
     assert_eq!(package.drop_override(b"no name"), Err(one));
     assert_eq!(package.media_type(b"/a", &mut out), Err(one));
+    assert_eq!(package.write_types(&mut out), Err(one));
+    assert_eq!(package.write_relationships(b"no", &mut out), Err(one));
     let mode = Mode::Internal;
     let put = package.put_relationship(b"/", b"r", b"a:", mode, b"b");
     assert_eq!(put, Err(one));
@@ -371,7 +387,7 @@ fn is_no_package(buffer: &mut [u8]) {
     let capacity = CAPACITY_MAX + 1;
     assert_eq!(package.restart(capacity), Err(Refusal::BadStart));
     assert!(*buffer == before);
-    ENDED.fetch_add(18, Ordering::Relaxed);
+    ENDED.fetch_add(20, Ordering::Relaxed);
 }
 
 /// A buffer below 32,768 bytes is no package, whatever it holds; neither is
@@ -405,7 +421,7 @@ fn short_buffers_and_zeros() {
     }
     println!(
         "short buffers and zeros: {count} buffers, {} calls",
-        count * 18
+        count * 20
     );
     assert!(count > 600);
 }

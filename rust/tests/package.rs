@@ -39,6 +39,8 @@ enum Kind {
     PutOverride,
     DropOverride,
     MediaType,
+    WriteTypes,
+    WriteRelationships,
     PutRelationship,
     DropRelationship,
     Resolve,
@@ -64,6 +66,8 @@ enum Call {
     PutOverride(Vec<u8>, Vec<u8>),
     DropOverride(Vec<u8>),
     MediaType(Vec<u8>, usize),
+    WriteTypes(usize),
+    WriteRelationships(Vec<u8>, usize),
     PutRelationship(Relationship),
     DropRelationship(Vec<u8>, Vec<u8>),
     Resolve(Resolve),
@@ -104,6 +108,8 @@ impl Call {
             Call::PutOverride(..) => Kind::PutOverride,
             Call::DropOverride(_) => Kind::DropOverride,
             Call::MediaType(..) => Kind::MediaType,
+            Call::WriteTypes(_) => Kind::WriteTypes,
+            Call::WriteRelationships(..) => Kind::WriteRelationships,
             Call::PutRelationship(_) => Kind::PutRelationship,
             Call::DropRelationship(..) => Kind::DropRelationship,
             Call::Resolve(_) => Kind::Resolve,
@@ -140,6 +146,10 @@ impl Call {
             Call::MediaType(name, length) => {
                 format!("media type {}, output {length}", show(name))
             }
+            Call::WriteTypes(length) => format!("write types, output {length}"),
+            Call::WriteRelationships(source, length) => {
+                format!("write relationships {}, output {length}", show(source))
+            }
             Call::PutRelationship(r) => format!(
                 "put relationship {} {} {} {} {}",
                 show(&r.source),
@@ -168,6 +178,7 @@ impl Call {
                 *length
             }
             Call::Resolve(r) => r.length,
+            Call::WriteTypes(length) | Call::WriteRelationships(_, length) => *length,
             _ => 0,
         }
     }
@@ -183,6 +194,8 @@ impl Call {
                 | Kind::Totals
                 | Kind::MediaType
                 | Kind::Resolve
+                | Kind::WriteTypes
+                | Kind::WriteRelationships
         )
     }
 }
@@ -262,6 +275,8 @@ fn by_archive(package: &mut Package, call: &Call, out: &mut [u8]) -> Answer {
         }
         Call::DropOverride(name) => package.drop_override(name).map(|()| one(0)),
         Call::MediaType(name, _) => package.media_type(name, out).map(one),
+        Call::WriteTypes(_) => package.write_types(out).map(one),
+        Call::WriteRelationships(source, _) => package.write_relationships(source, out).map(one),
         Call::PutRelationship(r) => {
             let mode = match r.mode {
                 0 => Mode::Internal,
@@ -304,6 +319,8 @@ fn by_reference(ledger: &mut Ledger, length: usize, call: &Call, out: &mut [u8])
         }
         Call::DropOverride(name) => ledger.drop_override(name).map(|()| one(0)),
         Call::MediaType(name, _) => ledger.media_type(name, out).map(one),
+        Call::WriteTypes(_) => ledger.write_types(out).map(one),
+        Call::WriteRelationships(source, _) => ledger.write_relationships(source, out).map(one),
         Call::PutRelationship(r) => ledger
             .put_relationship(&r.source, &r.id, &r.kind, r.mode, &r.target)
             .map(|()| one(0)),
@@ -335,7 +352,7 @@ enum Style {
 }
 
 #[rustfmt::skip]
-const SEGMENTS: &[&[u8]] = &[b"a", b"b", b"a.b", b"ab", b"T3", b"\xC3\xA9", b"%20", b"_rels", b"x.rels"];
+const SEGMENTS: &[&[u8]] = &[b"a", b"b", b"a.b", b"ab", b"T3", b"\xC3\xA9", b"%20", b"_rels", b"x.rels", b"R&D.&"];
 
 #[rustfmt::skip]
 const ODD_SUFFIXES: &[&[u8]] = &[
@@ -352,7 +369,7 @@ const ODD_NAMES: &[&[u8]] = &[
 const RESERVED: &[&[u8]] = &[b"/_rels/.rels", b"/_Rels/a.RELS", b"/x/_RELS/y.Rels"];
 
 #[rustfmt::skip]
-const EXTENSIONS: &[&[u8]] = &[b"b", b"tiff", b"xml", b"rels", b"\xC3\xA9", b"%20", b"x", b"abcdefghijklmnopqrstuvwxyz-12345"];
+const EXTENSIONS: &[&[u8]] = &[b"b", b"&", b"&&&", b"tiff", b"xml", b"rels", b"\xC3\xA9", b"%20", b"x", b"abcdefghijklmnopqrstuvwxyz-12345"];
 
 #[rustfmt::skip]
 const ODD_EXTENSIONS: &[&[u8]] = &[
@@ -374,7 +391,7 @@ const IDS: &[&[u8]] = &[b"r1", b"R1", b"_", b"rId9", b"a.b-c_d", b"r"];
 const ODD_IDS: &[&[u8]] = &[b"", b"1a", b"-a", b".a", b"a b", b"a:b", b"\xC3\xA9", b"a/b", b"r1\n", b"%20"];
 
 #[rustfmt::skip]
-const KINDS: &[&[u8]] = &[b"a:", b"http://example.com/mask", b"urn:x:y?z#f", b"A+-.1://h/%41", b"x:\xC3\xA9"];
+const KINDS: &[&[u8]] = &[b"a:", b"a:?b&&c=d&", b"http://example.com/mask", b"urn:x:y?z#f", b"A+-.1://h/%41", b"x:\xC3\xA9"];
 
 #[rustfmt::skip]
 const ODD_KINDS: &[&[u8]] = &[b"", b"a", b"/a:b", b":a", b"1a:b", b"a:[", b"a:b#c#d", b"#a:", b"a: b", b"a:%4", b"a:\xC3"];
@@ -389,7 +406,7 @@ const BASES: &[&[u8]] = &[
 /// Targets, well-formed or not, in either mode or in one only.
 #[rustfmt::skip]
 const TARGETS: &[&[u8]] = &[
-    b"a", b"T3", b"a/b", b"./a", b"../g", b"../../g", b"../../../g", b"/a/b", b"/", b".", b"..", b"a/", b"./", b"../", b"a//b", b"b.",
+    b"a", b"T3", b"&", b"a&&b", b"a?b&c", b"a/b", b"./a", b"../g", b"../../g", b"../../../g", b"/a/b", b"/", b".", b"..", b"a/", b"./", b"../", b"a//b", b"b.",
     b"/./a", b"/../a", b"a/../b", b"a/./b", b"../b/../c", b"a:b", b"./a:b", b"//h/p", b"/.//a", b"?q", b"#f", b"a?q", b"a#f", b"a#f#g",
     b"http://example.com/x?y#z", b"_rels/.rels", b"_RELS/x.Rels", b"../_rels/a.rels", b"/x/_rels/y.rels", b"x.rels", b"%41", b"a%2fb",
     b"%20", b"\xC3\xA9", b"\xC3", b"", b"a b", b"[0].piece", b"a/[0].piece", b":a", b"1:a", b"...", b"a..",
@@ -758,7 +775,28 @@ impl List {
         }
     }
 
+    /// A call that writes a stream; most often of a source that is held.
+    fn stream_call(&self, random: &mut Random) -> Call {
+        let length = random_length(random);
+        let length = random.pick(&[length, 1 << 16]);
+        if random.once_in(3) {
+            return Call::WriteTypes(length);
+        }
+        let source = match self.relationships.len() {
+            0 => self.source(random),
+            _ if random.once_in(4) => self.source(random),
+            count => {
+                let (source, _) = &self.relationships[random.below(count)];
+                random.flip_case(source)
+            }
+        };
+        Call::WriteRelationships(source, length)
+    }
+
     fn call(&self, random: &mut Random, charge: u64) -> Call {
+        if random.once_in(40) {
+            return self.stream_call(random);
+        }
         let others = match self.style {
             Style::Full => 3,
             Style::Pieces => 8,
@@ -886,6 +924,27 @@ impl Pair<'_> {
         answer
     }
 
+    /// Writes both streams, into outputs about as long as they need.
+    fn sweep_streams(&mut self, random: &mut Random, list: &List) {
+        let sources: BTreeSet<&Vec<u8>> = list.relationships.iter().map(|(s, _)| s).collect();
+        let sources = sources.into_iter().take(8).map(|s| random.flip_case(s));
+        let mut streams: Vec<Option<Vec<u8>>> = sources.map(Some).collect();
+        streams.push(None);
+        for source in streams {
+            let call = |length| match &source {
+                Some(source) => Call::WriteRelationships(source.clone(), length),
+                None => Call::WriteTypes(length),
+            };
+            let Err((3, needed)) = self.compare(random, &call(0)) else {
+                panic!("no output");
+            };
+            for length in [1, needed - 1, needed, needed + 1, needed + 300] {
+                let answer = self.compare(random, &call(length));
+                assert_eq!(answer.is_ok(), length >= needed);
+            }
+        }
+    }
+
     /// Asks everything that can be asked about what is held: each item, each
     /// part at each position, its type, what each relationship leads to, the
     /// totals, outputs of each length. Then drops the types and relationships,
@@ -930,6 +989,7 @@ impl Pair<'_> {
             }
         }
         self.sweep_relationships(random, list);
+        self.sweep_streams(random, list);
         for extension in list.extensions.iter().collect::<BTreeSet<_>>() {
             let call = Call::DropDefault(random.flip_case(extension));
             self.compare(random, &call).ok();
@@ -1123,6 +1183,8 @@ fn fields_lists() {
             (Kind::PutOverride, &[0, 4, 7, 10, 15]),
             (Kind::DropOverride, &[0, 4, 13]),
             (Kind::MediaType, &[0, 3, 4, 13, 14]),
+            (Kind::WriteTypes, &[0, 3]),
+            (Kind::WriteRelationships, &[0, 3, 4, 5]),
             (Kind::PutRelationship, &[0, 4, 5, 8, 9, 10, 15]),
             (Kind::DropRelationship, &[0, 4, 5, 8, 13]),
             (Kind::Resolve, &[0, 3, 4, 5, 8, 9, 13]),
