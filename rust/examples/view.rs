@@ -9,8 +9,7 @@
 use std::error::Error;
 use std::path::Path;
 use std::{env, fs};
-use zombirels::iri::{compose_pack_iri, resolve_reference, resolve_target};
-use zombirels::package::{Mode, Package, Totals, OVERHEAD};
+use zombirels::package::{Mode, Package, Resolved, Totals, OVERHEAD};
 use zombirels::Refusal;
 
 const CAPACITY: usize = 30_000;
@@ -41,7 +40,8 @@ fn main() -> Result<(), Box<dyn Error>> {
     load(&mut slide, &sheet);
     let links = load_links(&mut slide, &links);
     show_parts(&slide)?;
-    show_links(&links);
+    show_links(&slide, &links)?;
+    show_streams(&slide, &links)?;
     Ok(())
 }
 
@@ -159,27 +159,46 @@ fn media_type(slide: &Package, part: &[u8]) -> Result<String, Refusal> {
     }
 }
 
-/// Where each link leads.
-fn show_links(links: &[Link]) {
+/// Where each link leads, and whether the part is there.
+fn show_links(slide: &Package, links: &[Link]) -> Result<(), Refusal> {
     println!("\n{} links", links.len());
-    for link in links {
-        let leads = leads_to(link).unwrap_or_else(|refusal| refusal.to_string());
-        println!("  {} {} -> {leads}", text(link.source), text(link.id));
+    let mut out = [0; 1027];
+    for Link { source, id, .. } in links {
+        let Resolved { length, mode, held } =
+            slide.resolve_relationship(source, id, BASE, &mut out)?;
+        let note = match (mode, held) {
+            (Mode::External, _) => "outside",
+            (Mode::Internal, true) => "held",
+            (Mode::Internal, false) => "not held",
+        };
+        let leads = text(&out[..length]);
+        println!("  {} {} -> {leads} ({note})", text(source), text(id));
     }
+    Ok(())
 }
 
-/// The pack IRI of an internal target, or the IRI of an external one.
-fn leads_to(link: &Link) -> Result<String, Refusal> {
-    let mut out = [0; 1027];
-    let length = match link.mode {
-        Mode::Internal => {
-            let mut path = [0; 255];
-            let length = resolve_target(link.source, link.target, &mut path)?;
-            compose_pack_iri(BASE, &path[..length], &mut out)?
-        }
-        Mode::External => resolve_reference(BASE, link.target, &mut out)?,
-    };
-    Ok(text(&out[..length]))
+/// The types, and the relationships of each source, as they are stored.
+fn show_streams(slide: &Package, links: &[Link]) -> Result<(), Refusal> {
+    let types = written(|out| slide.write_types(out))?;
+    println!("\nTypes\n{}", text(&types));
+    let mut sources: Vec<&[u8]> = links.iter().map(|link| link.source).collect();
+    sources.dedup();
+    for source in sources {
+        let stream = written(|out| slide.write_relationships(source, out))?;
+        println!("Relationships of {}\n{}", text(source), text(&stream));
+    }
+    Ok(())
+}
+
+/// What a call writes, into as many bytes as it says it needs.
+fn written(call: impl Fn(&mut [u8]) -> Result<usize, Refusal>) -> Result<Vec<u8>, Refusal> {
+    let mut out = Vec::new();
+    if let Err(Refusal::OutputTooShort { needed }) = call(&mut out) {
+        out.resize(needed, 0);
+    }
+    let length = call(&mut out)?;
+    out.truncate(length);
+    Ok(out)
 }
 
 fn lines(file: &[u8]) -> impl Iterator<Item = &[u8]> {

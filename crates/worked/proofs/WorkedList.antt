@@ -1,21 +1,26 @@
--- The worked list, computed on the definitions.
+-- The worked lists, computed on the definitions.
 -- Assumes nothing.
-use Prim.Native.Nat.{ℕ, _≤_, _<_}
-use mathlib.Core.Path.{_≡_, refl, ap}
-use mathlib.Core.List.{List, [], _∷_}
+use Prim.Native.Nat.{ℕ, _+_, _≤_, _<_}
+use Prim.Native.Char.{code}
+use mathlib.Core.Path.{_≡_, refl, sym, ap, _∙_}
+use mathlib.Core.List.{List, [], _∷_, _++_}
 use native.Mathlib.Omega.{arith}
-use lib.ListN.{length, getD}
-use borrow.Author.Tests.{le-ltb}
+use lib.ListN.{length, getD, drop}
+use borrow.Author.Tests.{le-ltb, le-leb}
 use Rattle.chars.specs.Bytes.{ascii}
 use Rattle.iri.specs.Answers.{Answer, answer}
 use Rattle.model.specs.Sets.{Bytes}
 use Rattle.model.specs.Package.{empty}
-use Rattle.model.specs.Calls.{Call, Start, Looks, Changes, Find, PutItem, done, startRefusal, answers}
+use Rattle.model.specs.Calls.{Call, Start, Looks, Changes, Prints, Find, PutItem, PutDefault, PutRelationship, Print, WriteTypes, ResolveRelationship, Text, printed, filled, done, startRefusal, answers, after}
 use Rattle.model.specs.Opened.{everything}
 use Rattle.contract.specs.Answers.{ofFound}
 use Rattle.contract.specs.declared.answers.Found.{Found}
 use Rattle.contract.specs.declared.answers.Found.the-variants.{Length, Refused}
 use Rattle.contract.specs.Ran.{Ran}
+use Rattle.relationships.specs.Resolutions.{ofResolution}
+use Rattle.relationships.specs.declared.resolving.Resolution.{Resolution}
+use Rattle.relationships.specs.declared.resolving.Resolution.the-variants as resolution
+use Rattle.worked.specs.Led.{ledText, ledTo}
 
 -- the calls after the start
 abbrev pub worked : List Call
@@ -31,12 +36,47 @@ pub worked-last : (room : ℕ) → getD (answers room (empty 100) worked) 3 done
 unfolding everything
 worked-last room = refl
 
--- a start of 100 bytes is accepted
-pub accepted : (o p : Bytes) (a : Answer) → 33000 ≤ length o → Ran (Start 100) o a p → a .number ≡ 0
+-- a start of so few bytes is accepted
+pub accepted : (C : ℕ) (o p : Bytes) (a : Answer) → C ≤ 232 → 33000 ≤ length o → Ran (Start C) o a p → a .number ≡ 0
 unfolding startRefusal
-accepted o p a h r = ap (λ (x : Answer). x .number) (r .begun .0 (rw (le-ltb (length o) 32868 (omega arith))) .0)
+accepted C o p a k h r = ap (λ (x : Answer). x .number) (r .begun .0 (rw (le-ltb 1000000 C (omega arith), le-ltb (length o) (C + 32768) (omega arith))) .0)
 
 -- a length above 0 is no refusal's value
 pub found-length : (r : Found) (n : ℕ) → 0 < n → ofFound r ≡ answer 0 (n ∷ []) [] → r ≡ Length n
 found-length (Length m) n h e = ap Length (ap (λ (a : Answer). getD (a .values) 0 0) e)
 found-length (Refused k) n h e = absurd (omega (arith, ap (λ (a : Answer). getD (a .values) 0 0) e))
+
+-- the marked example of resolving: the calls after the start, but for the last one, and the last one
+abbrev pub leading : Bytes → List Call
+leading types =
+    Changes (PutDefault (ascii "xml") (ascii "text/xml"))
+    ∷ Changes (PutItem (ascii "/foo/b.xml") (ascii "tile"))
+    ∷ Changes (PutRelationship (ascii "/foo/test.xml") (ascii "r1") (ascii "a:tile") 0 (ascii "b.xml"))
+    ∷ Prints WriteTypes types
+    ∷ []
+
+abbrev pub led : Print
+led = ResolveRelationship (ascii "/FOO/TEST.xml") (ascii "r1") (ascii "http://www.example.com/ex.opc")
+
+led-printed : (room size : ℕ) (types : Bytes) → printed (after room (empty 200) (leading types)) size led ≡ Text ledText (0 ∷ 1 ∷ [])
+unfolding everything
+led-printed room size types = refl
+
+filled-fits : (t out : Bytes) (values : List ℕ) → length t ≤ length out → filled 3 out (Text t values) ≡ answer 0 (length t ∷ values) (t ++ drop (length t) out)
+unfolding filled
+filled-fits t out values h = rw (le-leb (length t) (length out) h)
+
+-- the ledger's answer to the last call
+pub led-last : (room : ℕ) (types out : Bytes) → 48 ≤ length out → getD (answers room (empty 200) (leading types ++ Prints led out ∷ [])) 4 done ≡ ledTo out
+unfolding answers after
+led-last room types out h = ap (filled 3 out) (led-printed room (length out) types) ∙ filled-fits ledText out (0 ∷ 1 ∷ []) h
+
+-- the last byte of what was written
+output-is : (r : Resolution) (o : Bytes) → (ofResolution r o) .output ≡ o
+output-is (resolution.Internal n h) o = refl
+output-is (resolution.External n) o = refl
+output-is (resolution.Short n) o = refl
+output-is (resolution.Refused k) o = refl
+
+pub led-end : (r : Resolution) (out written : Bytes) → ofResolution r written ≡ ledTo out → getD written 47 0 ≡ code "l"
+led-end r out written e = ap (λ (o : Bytes). getD o 47 0) (sym (output-is r written) ∙ ap (λ (a : Answer). a .output) e)
