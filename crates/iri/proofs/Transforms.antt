@@ -12,7 +12,7 @@ use borrow.Author.Tests.{eq-eqb, ne-eqb, eqb-true, eqb-false, not-true, not-fals
 use Rattle.chars.specs.Lists.{none}
 use Rattle.names.specs.Iris.{packageIri, iri}
 use Rattle.iri.specs.Answers.{No, Text}
-use Rattle.iri.specs.Components.{schemeOf, authorityOf, pathOf, defined, queryOf, fragmentOf, recompose, SplitAt}
+use Rattle.iri.specs.Components.{schemeOf, authorityOf, pathOf, defined, queryOf, fragmentOf, recompose}
 use Rattle.iri.specs.References.{target, transform, removeDotSegments, relativePath, resolve}
 use Rattle.iri.specs.Scratch.{Taken, Removed, Went, Sent, Reached}
 use Rattle.iri.specs.Targets.{resolveReference}

@@ -24,7 +24,7 @@ use Rattle.iri.proofs.Judging.{package-few}
 use Rattle.model.specs.Sets.{Bytes, lookup}
 use Rattle.model.specs.Fields.{when, first, sourceField, idField, packageField}
 use Rattle.model.specs.Package.{State, Relationship, relationshipKey, keyOfRelationship, group, isPart}
-use Rattle.model.specs.Calls.{Prints, Printed, ResolveRelationship, Text, Refused, choose, flag, resolved, printed, filled, withRelationships}
+use Rattle.model.specs.Calls.{Prints, ResolveRelationship, Text, Refused, choose, flag, resolved, printed, filled, withRelationships}
 use Rattle.model.specs.Good.{fieldsOfRelationship}
 use Rattle.model.proofs.Refusals.{all-none, unmet}
 use Rattle.model.proofs.Lookups.{none-some, some-eq, lookup-each}
@@ -32,7 +32,7 @@ use Rattle.model.proofs.Targets.{fielded, target-size}
 use Rattle.store.specs.Layout.{countOf}
 use Rattle.store.specs.Rows.{Row, rowAt, tagAt, rowsOf, fieldOf}
 use Rattle.store.specs.Packages.{Shape, Sound, isPackage}
-use Rattle.contract.specs.Rows.{keyIn, rowKey, relationshipTag, relationshipRow}
+use Rattle.contract.specs.Rows.{keyIn, rowKey, relationshipRow}
 use Rattle.contract.specs.Holds.{Holds}
 use Rattle.contract.specs.Entries.{Sought}
 use Rattle.contract.specs.Ran.{Ran}
@@ -123,9 +123,6 @@ module _ (source target : Bytes) (ls : length source ≤ 255) (lt : length targe
 
   pub path-few : length (take k path) ≤ 511
   path-few = omega (arith, path-end, length-take-few k path)
-
-  pub path-length : length path ≡ 512 → k ≡ length (take k path)
-  path-length e = sym (length-take-le k path (omega (arith, path-end)))
 
   path-is : take k path ≡ resolvePath source target
   unfolding resolvePath

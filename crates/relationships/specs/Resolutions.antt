@@ -1,6 +1,6 @@
 -- The answer of resolving a relationship, and what the inner functions of that call promise.
 -- Assumes nothing.
-use Prim.Native.Nat.{ℕ, _<_}
+use Prim.Native.Nat.{ℕ}
 use mathlib.Core.Path.{_≡_}
 use mathlib.Core.List.{List, [], _∷_}
 use mathlib.Core.Option.{some}
@@ -10,7 +10,6 @@ use Rattle.iri.specs.Pack.{packIri}
 use Rattle.model.specs.Package.{Relationship, State, group, isPart}
 use Rattle.model.specs.Calls.{Text, flag, resolved, filled}
 use Rattle.model.specs.Good.{fieldsOfRelationship}
-use Rattle.store.specs.Layout.{countOf}
 use Rattle.store.specs.Rows.{rowAt}
 use Rattle.contract.specs.Rows.{relationshipRow}
 use Rattle.contract.specs.Holds.{Holds}
@@ -25,13 +24,13 @@ ofResolution (External n) out = answer 0 (n ∷ 1 ∷ 0 ∷ []) out
 ofResolution (Short n) out = answer 3 (n ∷ 0 ∷ 0 ∷ []) out
 ofResolution (Refused k) out = answer k (0 ∷ 0 ∷ 0 ∷ []) out
 
--- a is the answer where the internal target leads from its source, in a buffer b
+-- a is the answer for an internal target of that source, in the buffer b
 pub record LedTo (b source target base out : List ℕ) (a : Answer) : Type 0 where
   pub kept : (a .number ≡ 0 → ⊥) → a .output ≡ out
   pub is : (S : State) → Holds b S
       → a ≡ filled 3 out (Text (packIri base (resolvePath source target)) (0 ∷ flag (isPart (group (resolvePath source target) (S .items))) ∷ []))
 
--- a is the answer for the relationship in row i
+-- a is the answer for the relationship in row i of b
 pub record RowResolved (b : List ℕ) (i : ℕ) (base out : List ℕ) (a : Answer) : Type 0 where
   pub kept : (a .number ≡ 0 → ⊥) → a .output ≡ out
   pub is : (S : State) → Holds b S → (r : Relationship) → rowAt b i ≡ relationshipRow r → fieldsOfRelationship r ≡ 0 → a ≡ filled 3 out (resolved S base (some r))
