@@ -18,12 +18,31 @@ fn put_line(pkg: &[u8], i: usize, out: &mut [u8], at: usize) -> usize
 {
     let t = tag(pkg, i);
     if t == 32768 {
-        return put_type(out, at, b"<Default Extension=\"", field(pkg, i, 0), field(pkg, i, 1));
+        return put_type(
+            out,
+            at,
+            b"<Default Extension=\"",
+            field(pkg, i, 0),
+            field(pkg, i, 1),
+        );
     }
     if t == 32769 {
-        return put_type(out, at, b"<Override PartName=\"", field(pkg, i, 0), field(pkg, i, 1));
+        return put_type(
+            out,
+            at,
+            b"<Override PartName=\"",
+            field(pkg, i, 0),
+            field(pkg, i, 1),
+        );
     }
-    put_relationship(out, at, t, field(pkg, i, 1), field(pkg, i, 2), field(pkg, i, 3))
+    put_relationship(
+        out,
+        at,
+        t,
+        field(pkg, i, 1),
+        field(pkg, i, 2),
+        field(pkg, i, 3),
+    )
 }
 
 // The lines of the rows from one up to, not including, the row `to`.
@@ -52,7 +71,14 @@ fn put_stream(pkg: &[u8], from: usize, to: usize, head: &[u8], foot: &[u8], out:
 }
 
 // The answer of a call that writes such a stream. A first pass over none of the output tells the length.
-pub(crate) fn write_stream(pkg: &[u8], from: usize, to: usize, head: &[u8], foot: &[u8], out: &mut [u8]) -> Written
+pub(crate) fn write_stream(
+    pkg: &[u8],
+    from: usize,
+    to: usize,
+    head: &[u8],
+    foot: &[u8],
+    out: &mut [u8],
+) -> Written
     requires { ⌜ (to ≤ countOf (now pkg)) × (to ≤ slotCount) × (length (now head) ≤ 1000) × (length (now foot) ≤ 1000) ⌝ }
     ensures { λ r. ⌜ Answered (now (pkg .entry)) from to (now (head .entry)) (now (foot .entry)) (now (out .entry)) (ofWritten r (now (out .exit))) ⌝ }
 {

@@ -58,7 +58,14 @@ fn put_mode(out: &mut [u8], at: usize, tag: usize) -> usize
 }
 
 // The line of a relationship with this tag.
-pub(crate) fn put_relationship(out: &mut [u8], at: usize, tag: usize, id: &[u8], kind: &[u8], target: &[u8]) -> usize
+pub(crate) fn put_relationship(
+    out: &mut [u8],
+    at: usize,
+    tag: usize,
+    id: &[u8],
+    kind: &[u8],
+    target: &[u8],
+) -> usize
     requires { ⌜ (at ≤ 2 ^ 53) × (length (now id) < 2 ^ 32) × (length (now kind) < 2 ^ 32) × (length (now target) < 2 ^ 32) ⌝ }
     ensures { λ r. ⌜ Sent (now (out .entry)) at (relationshipText tag (now (id .entry)) (now (kind .entry)) (now (target .entry))) r (now (out .exit)) ⌝ }
 {
