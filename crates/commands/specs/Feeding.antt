@@ -1,4 +1,4 @@
--- What is printed for an input that comes in pieces. The bytes of a line that no line feed has ended yet are kept; its room is above 1,024 bytes.
+-- What is printed for an input that comes in pieces. The bytes of a line that no line feed has ended yet are kept in a buffer of more than 1,024 bytes.
 -- Assumes nothing.
 use Prim.Native.Nat.{ℕ, _+_, _≤_, _<_}
 use mathlib.Core.Path.{_≡_}
@@ -15,7 +15,7 @@ use Rattle.lines.specs.Gathering.{Open}
 abbrev pub mostShown : ℕ
 mostShown = 101888
 
--- what is printed for an input whose begin is the n bytes of a line and a piece from a place on; `later` is what follows the piece
+-- what is printed for an input that begins with the n bytes of a line and goes on with a piece from a place; `later` follows the piece
 abbrev pub rest : State → Bytes → ℕ → Bytes → ℕ → Bytes → Bytes
 rest S line n piece from later = shown S (linesOf (take n line ++ (drop from piece ++ later)))
 
@@ -28,14 +28,14 @@ pub record Told (S : State) (line : Bytes) (n : ℕ) (piece : Bytes) (from : ℕ
   pub begun : Open (take n' line')
   pub is : (later : Bytes) → rest S line n piece from later ≡ text ++ rest after line' n' piece from' later
 
--- one line at most
+-- the promise of an inner function: one line at most
 pub record Steps (p line : Bytes) (n : ℕ) (piece : Bytes) (from : ℕ) (out : Bytes) (n' from' k : ℕ) (p' line' out' : Bytes) : Type 0 where
   pub onward : from < length piece → (from < from') × (from' ≤ length piece)
   pub small : k ≤ 254720
   pub few : (S : State) → Holds p S → k ≤ mostShown
   pub told : (S : State) → Holds p S → 1024 < length line → Open (take n line) → from ≤ length piece → Told S line n piece from out n' from' k p' line' out'
 
--- some lines, in a loop
+-- and of its loop: some lines, with room for one more
 pub record Feeding (p line : Bytes) (n : ℕ) (piece : Bytes) (from : ℕ) (out : Bytes) (n' from' k : ℕ) (p' line' out' : Bytes) : Type 0 where
   pub low : from ≤ from'
   pub inside : from ≤ length piece → from' ≤ length piece

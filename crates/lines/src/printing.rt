@@ -42,6 +42,7 @@ fn put_number(out: &mut [u8], at: usize, n: usize, width: usize) -> usize
     emit(out, next, &b)
 }
 
+// Sends the line of a refusal, or of 0.
 pub fn put_answer(n: u8, out: &mut [u8]) -> usize
     ensures { λ r. ⌜ Sent (now (out .entry)) 0 (numberLine n) r (now (out .exit)) ⌝ }
 {
@@ -79,6 +80,7 @@ fn put_type(kind: &[u8], at: usize, out: &mut [u8]) -> usize
     emit(out, at, kind)
 }
 
+// Sends the line of a part in a listing. An empty type stands for none.
 pub fn put_row(pieces: usize, bytes: usize, name: &[u8], kind: &[u8], out: &mut [u8]) -> usize
     requires { ⌜ (length (now name) ≤ 255) × (length (now kind) ≤ 127) ⌝ }
     ensures { λ r. ⌜ Sent (now (out .entry)) 0 (row pieces bytes (now (name .entry)) (typeGiven (now (kind .entry)))) r (now (out .exit)) ⌝ }
