@@ -9,8 +9,7 @@ use native.Mathlib.Omega.{arith}
 use lib.Dec.{leb, ltb, eqb}
 use lib.ListN.{length, getD, take, drop}
 use borrow.Author.Tests.{lt-ltb, le-ltb, le-leb, lt-leb, leb-true, leb-false, ltb-true, ltb-false}
-use Rattle.chars.specs.declared.folding.Order.{Order}
-use Rattle.model.specs.Sets.{Bytes, Key, isEqual, sameKey, held, lookup, insert, remove}
+use Rattle.model.specs.Sets.{Bytes, Key, sameKey, held, lookup, insert, remove}
 use Rattle.model.specs.Places.{bound, place, spot}
 use Rattle.model.specs.Calls.{done, refused}
 use Rattle.model.proofs.Bools.{not-passing}
@@ -23,7 +22,7 @@ use Rattle.store.specs.Rows.{Row, noRow, makeRow, rowSize, rowAt, rowsOf, inser
 use Rattle.store.specs.Packages.{Sound, Room, Inserted, Removed}
 use Rattle.store.proofs.Headers.{rows-count, row-getD}
 use Rattle.contract.specs.Rows.{setOf, keyIn, rowKey}
-use Rattle.contract.specs.Searches.{Ordered, Stands, Bounded}
+use Rattle.contract.specs.Searches.{Ordered, Has, Bounded}
 use Rattle.contract.specs.Entries.{Sought, rowCount, RowsCounted, keyTaken, noRowRoom, Weighed, Became, Entered, Dropped}
 
 -- an entry is held where its spot is one of the list
@@ -56,9 +55,9 @@ module _ (b : List ℕ) (k : Key) (m r : ℕ) (em : m ≡ countOf b) (eb : Bound
   pub sought-none : m ≤ r → Sought b k m
   sought-none l = missed (λ _ i. absurd (omega arith))
 
-  module _ (o : Order) (st : Stands b r k o) (z : Bool) (ez : z ≡ isEqual o) (l : r < m) where
+  module _ (z : Bool) (ez : Has b r k z) (l : r < m) where
     same-is : Sound b → sameKey (rowKey (rowAt b r)) k ≡ z
-    same-is s = sym (ez ∙ ap isEqual (st .is s (omega arith)))
+    same-is s = sym (ez .is s (omega arith))
 
     pub sought-other : z ≡ false → Sought b k m
     sought-other e = missed (λ q i. not-passing (sameKey k (rowKey (rowAt b r))) (λ y. true≢false (sym (same-key-sym k (rowKey (rowAt b r)) y) ∙ same-is (q .sound) ∙ e)))

@@ -2,16 +2,17 @@
 -- Assumes nothing.
 use Prim.Native.Nat.{ℕ, zero, suc, _+_, _-_, _/_, _≤_, _<_}
 use mathlib.Core.Path.{_≡_, refl, ap, sym, _∙_}
-use mathlib.Core.Bool.{Bool, true, false, not, cond}
+use mathlib.Core.Bool.{Bool, true, false, not, cond, true≢false}
 use mathlib.Core.List.{List, [], _∷_}
 use native.Mathlib.Omega.{arith}
 use lib.Dec.{ltb, eqb}
 use lib.ListN.{length, getD}
-use borrow.Author.Tests.{lt-ltb, le-ltb, eq-eqb, ne-eqb}
-use Rattle.chars.specs.Folding.{fold, order, foldedOrder}
+use borrow.Author.Tests.{lt-ltb, le-ltb, eq-eqb, ne-eqb, ltb-true, ltb-false, not-true, not-false}
+use Rattle.chars.specs.Folding.{fold, equivalent, order, foldedOrder}
 use Rattle.chars.specs.declared.folding.Order.{Order}
 use Rattle.chars.specs.declared.folding.Order.the-variants.{Less, Equal, Greater}
-use Rattle.model.specs.Sets.{Bytes, Key, thenBy, keyOrder, isLess, before}
+use Rattle.chars.proofs.Equivalence.{folded-equal, equivalent-equal}
+use Rattle.model.specs.Sets.{Bytes, Key, thenBy, keyOrder, isLess, isEqual, before}
 use Rattle.model.specs.Places.{firstWhere, bound}
 use Rattle.model.proofs.Walks.{first-le, first-le-passing, failing-lt-first}
 use Rattle.model.proofs.Places.{not-before-monotone}
@@ -20,7 +21,7 @@ use Rattle.store.specs.Rows.{Row, noRow, rowAt, tagAt, rowsOf, fieldOf}
 use Rattle.store.specs.Packages.{Shape, Sound}
 use Rattle.store.proofs.Headers.{rows-count, row-getD}
 use Rattle.contract.specs.Rows.{setOf, second, keyIn, rowKey}
-use Rattle.contract.specs.Searches.{Ordered, Stands, Bounded, Halved}
+use Rattle.contract.specs.Searches.{Ordered, Stands, Has, Bounded, Halved}
 
 -- KEYS WITH A SET IN FRONT
 pub set-less : (m n : ℕ) (a c x y : Bytes) → m < n → keyOrder (m ∷ a, x) (n ∷ c, y) ≡ Less
@@ -75,6 +76,36 @@ then-greater x = refl
 pub then-equal : (o : Order) (x y : Order) → o ≡ Equal → x ≡ y → x ≡ thenBy o y
 unfolding thenBy
 then-equal o x y e f = rw e f
+
+-- WHETHER A ROW HAS A KEY
+has-told : (b : List ℕ) (i : ℕ) (k : Key) (o : Order) → Stands b i k o → (z : Bool) → z ≡ isEqual o → Has b i k z
+has-told b i k o st z ez = record { is = λ s l. ez ∙ ap isEqual (st .is s l) }
+
+module _ (b : List ℕ) (i set : ℕ) (p : Bytes) (t : ℕ) (id : Bytes) (u own : ℕ) (eu : Shape b → i < countOf b → u ≡ tagAt b i) (eo : own ≡ setOf u) where
+  abbrev K : Key
+  K = keyIn set p t id
+
+  pub has-other-set : (own ≡ set → ⊥) → Has b i K false
+  has-other-set n = go (ltb own set) refl
+    where
+      go : (q : Bool) → ltb own set ≡ q → Has b i K false
+      go true e = has-told b i K Less (stands-less b i set p t id u own eu eo (ltb-true own set e)) false refl
+      go false e = has-told b i K Greater (stands-greater b i set p t id u own eu eo (omega (arith, ltb-false own set e))) false refl
+
+  module _ (e : own ≡ set) (f : Bytes) (ef : Sound b → i < countOf b → f ≡ fieldOf (rowAt b i) 0) (y : Bool) (ey : y ≡ equivalent f p) where
+    pub has-other-text : not y ≡ true → Has b i K false
+    has-other-text n = go (foldedOrder f p) refl
+      where
+        go : (o : Order) → foldedOrder f p ≡ o → Has b i K false
+        go Less g = has-told b i K Less (stands-first b i set p t id u own eu eo (omega arith) (omega arith) f ef Less Less (sym g) refl then-less) false refl
+        go Equal g = absurd (true≢false (sym (folded-equal f p g) ∙ sym ey ∙ not-true y n))
+        go Greater g = has-told b i K Greater (stands-first b i set p t id u own eu eo (omega arith) (omega arith) f ef Greater Greater (sym g) refl then-greater) false refl
+
+    pub has-second : not y ≡ false → (g : Bytes) → (Sound b → i < countOf b → g ≡ fieldOf (rowAt b i) 1) → (r : Order) → r ≡ order (second set u g) (second set t id) → (z : Bool) → z ≡ isEqual r → Has b i K z
+    has-second n g eg r er z ez =
+        has-told b i K r
+        (stands-same b i set p t id u own eu eo (omega arith) (omega arith) f ef (foldedOrder f p) refl g eg r
+        (then-equal (foldedOrder f p) r (order (second set u g) (second set t id)) (equivalent-equal f p (sym ey ∙ not-false y n)) er)) z ez
 
 -- THE SEARCH
 module _ (b : List ℕ) (k : Key) where

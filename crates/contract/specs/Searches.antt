@@ -2,8 +2,9 @@
 -- Assumes nothing.
 use Prim.Native.Nat.{ℕ, _≤_, _<_}
 use mathlib.Core.Path.{_≡_}
+use mathlib.Core.Bool.{Bool}
 use mathlib.Core.List.{List}
-use Rattle.model.specs.Sets.{Key, keyOrder, Sorted}
+use Rattle.model.specs.Sets.{Key, keyOrder, sameKey, Sorted}
 use Rattle.model.specs.Places.{bound}
 use Rattle.chars.specs.declared.folding.Order.{Order}
 use Rattle.store.specs.Layout.{countOf}
@@ -19,6 +20,10 @@ pub record Ordered (b : List ℕ) : Type 0 where
 -- o tells how the key of row i stands to the key k
 pub record Stands (b : List ℕ) (i : ℕ) (k : Key) (o : Order) : Type 0 where
   pub is : Sound b → i < countOf b → o ≡ keyOrder (rowKey (rowAt b i)) k
+
+-- z tells whether row i has the key k
+pub record Has (b : List ℕ) (i : ℕ) (k : Key) (z : Bool) : Type 0 where
+  pub is : Sound b → i < countOf b → z ≡ sameKey (rowKey (rowAt b i)) k
 
 -- r is the first row whose key is not before k
 pub record Bounded (b : List ℕ) (k : Key) (r : ℕ) : Type 0 where

@@ -1,9 +1,8 @@
 // The rows of Defaults, Overrides and relationships: found by their key, put in, taken out.
 use crate::answers::Did;
 use crate::search::bound;
+use crate::search::has_key;
 use crate::search::set_of;
-use crate::search::stands;
-use chars::folding::Order;
 use store::header::count;
 use store::header::free;
 use store::rows::insert;
@@ -12,21 +11,26 @@ ghost use mathlib.Core.Path.{_≡_};
 ghost use Prim.Native.Nat.{_+_, _^_, _≤_, _<_};
 ghost use lib.Dec.{leb};
 ghost use lib.ListN.{length};
-ghost use Rattle.model.specs.Sets.{isEqual};
 ghost use Rattle.store.specs.Rows.{makeRow};
 ghost use Rattle.store.specs.Packages.{Shape};
-ghost use Rattle.contract.specs.Rows.{keyIn};
+ghost use Rattle.contract.specs.Rows.{setOf, keyIn};
+ghost use Rattle.contract.specs.Searches.{Bounded};
 ghost use Rattle.contract.specs.Answers.{ofDid};
 ghost use Rattle.contract.specs.Entries.{Sought, RowsCounted, Weighed, Entered, Dropped};
 
-fn is_equal(o: Order) -> bool
-    ensures { λ r. ⌜ r ≡ isEqual o ⌝ }
+// r, where that row has the key; the number of rows if it has not. No row before r and no row behind it has the key.
+fn hit(pkg: &[u8], r: usize, set: usize, p: &[u8], t: usize, id: &[u8]) -> usize
+    requires { ⌜ Shape (now pkg) ⌝ }
+    requires { ⌜ Bounded (now pkg) (keyIn set (now p) t (now id)) r ⌝ }
+    ensures { λ x. ⌜ Sought (now (pkg .entry)) (keyIn set (now (p .entry)) t (now (id .entry))) x ⌝ }
 {
-    match o {
-        Order::Less => false,
-        Order::Equal => true,
-        Order::Greater => false,
+    let m = count(pkg);
+    if r < m {
+        if has_key(pkg, r, set, p, t, id) {
+            return r;
+        }
     }
+    m
 }
 
 // The row that has the key of the set, the text p, the tag t and the id; the number of rows if there is none.
@@ -34,14 +38,8 @@ pub fn locate(pkg: &[u8], set: usize, p: &[u8], t: usize, id: &[u8]) -> usize
     requires { ⌜ Shape (now pkg) ⌝ }
     ensures { λ r. ⌜ Sought (now (pkg .entry)) (keyIn set (now (p .entry)) t (now (id .entry))) r ⌝ }
 {
-    let m = count(pkg);
     let r = bound(pkg, set, p, t, id);
-    if r < m {
-        if is_equal(stands(pkg, r, set, p, t, id)) {
-            return r;
-        }
-    }
-    m
+    hit(pkg, r, set, p, t, id)
 }
 
 // How many rows the set has.
@@ -75,14 +73,24 @@ fn has_room(room: usize, a: usize, b: usize, c: usize, d: usize) -> bool
     d <= y - c
 }
 
-// The refusal of a new row: 10, 15 or 0.
-fn row_refusal(pkg: &[u8], limit: usize, t: usize, f0: &[u8], f1: &[u8], f2: &[u8], f3: &[u8]) -> u8
-    requires { ⌜ Shape (now pkg) ⌝ }
+// The refusal of a new row, which would be row r of a set: 10, 15 or 0.
+fn row_refusal(
+    pkg: &[u8],
+    r: usize,
+    set: usize,
+    limit: usize,
+    t: usize,
+    f0: &[u8],
+    f1: &[u8],
+    f2: &[u8],
+    f3: &[u8],
+) -> u8
+    requires { ⌜ Shape (now pkg) × (set ≡ setOf t) ⌝ }
+    requires { ⌜ Bounded (now pkg) (keyIn set (now f0) t (now f1)) r ⌝ }
     ensures { λ k. ⌜ Weighed (now (pkg .entry)) limit (makeRow t (now (f0 .entry)) (now (f1 .entry)) (now (f2 .entry)) (now (f3 .entry))) k ⌝ }
 {
     let m = count(pkg);
-    let set = set_of(t);
-    if locate(pkg, set, f0, t, f1) < m {
+    if hit(pkg, r, set, f0, t, f1) < m {
         return 10;
     }
     if limit <= row_count(pkg, set) {
@@ -111,11 +119,12 @@ pub fn put_row(
     requires { ⌜ (0 < length (now f0)) × (t < 2 ^ 32) ⌝ }
     ensures { λ r. ⌜ Entered (now (pkg .entry)) limit (makeRow t (now (f0 .entry)) (now (f1 .entry)) (now (f2 .entry)) (now (f3 .entry))) (ofDid r) (now (pkg .exit)) ⌝ }
 {
-    let k = row_refusal(pkg, limit, t, f0, f1, f2, f3);
+    let set = set_of(t);
+    let r = bound(pkg, set, f0, t, f1);
+    let k = row_refusal(pkg, r, set, limit, t, f0, f1, f2, f3);
     if k != 0 {
         return Did::Refused(k);
     }
-    let r = bound(pkg, set_of(t), f0, t, f1);
     insert(pkg, r, t, f0, f1, f2, f3);
     Did::Done
 }

@@ -2,6 +2,7 @@
 use chars::folding::Order;
 use chars::folding::compare;
 use chars::folding::compare_folded;
+use chars::folding::is_equivalent;
 use store::header::count;
 use store::rows::field;
 use store::rows::tag;
@@ -9,10 +10,10 @@ ghost use mathlib.Core.Path.{_≡_};
 ghost use Prim.Native.Nat.{_/_, _≤_};
 ghost use mathlib.Core.List.{[], _∷_};
 ghost use Rattle.chars.specs.Folding.{order};
-ghost use Rattle.model.specs.Sets.{isLess};
+ghost use Rattle.model.specs.Sets.{isLess, isEqual};
 ghost use Rattle.store.specs.Layout.{slotCount, countOf};
 ghost use Rattle.contract.specs.Rows.{setOf, second, keyIn};
-ghost use Rattle.contract.specs.Searches.{Stands, Bounded};
+ghost use Rattle.contract.specs.Searches.{Stands, Has, Bounded};
 
 // The set that a row's tag tells: 0 items, 1 Defaults, 2 Overrides, 3 relationships.
 pub fn set_of(t: usize) -> usize
@@ -56,7 +57,7 @@ fn compare_second(set: usize, u: usize, other: &[u8], t: usize, id: &[u8]) -> Or
 }
 
 // How the key of row i stands to the key of the set, the text p, the tag t and the id.
-pub fn stands(pkg: &[u8], i: usize, set: usize, p: &[u8], t: usize, id: &[u8]) -> Order
+fn stands(pkg: &[u8], i: usize, set: usize, p: &[u8], t: usize, id: &[u8]) -> Order
     ensures { λ r. ⌜ Stands (now (pkg .entry)) i (keyIn set (now (p .entry)) t (now (id .entry))) r ⌝ }
 {
     let u = tag(pkg, i);
@@ -72,6 +73,30 @@ pub fn stands(pkg: &[u8], i: usize, set: usize, p: &[u8], t: usize, id: &[u8]) -
         Order::Equal => compare_second(set, u, field(pkg, i, 1), t, id),
         Order::Greater => Order::Greater,
     }
+}
+
+fn is_equal(o: Order) -> bool
+    ensures { λ r. ⌜ r ≡ isEqual o ⌝ }
+{
+    match o {
+        Order::Less => false,
+        Order::Equal => true,
+        Order::Greater => false,
+    }
+}
+
+// Whether row i has the key of the set, the text p, the tag t and the id.
+pub fn has_key(pkg: &[u8], i: usize, set: usize, p: &[u8], t: usize, id: &[u8]) -> bool
+    ensures { λ r. ⌜ Has (now (pkg .entry)) i (keyIn set (now (p .entry)) t (now (id .entry))) r ⌝ }
+{
+    let u = tag(pkg, i);
+    if set_of(u) != set {
+        return false;
+    }
+    if !is_equivalent(field(pkg, i, 0), p) {
+        return false;
+    }
+    is_equal(compare_second(set, u, field(pkg, i, 1), t, id))
 }
 
 fn is_less(o: Order) -> bool

@@ -8,7 +8,8 @@ use crate::bytes::copy_in;
 use crate::bytes::get4;
 use crate::bytes::move_down;
 use crate::bytes::put4;
-use crate::slots::lowest;
+use crate::slots::guesses;
+use crate::slots::next_lowest;
 use crate::slots::offset;
 use crate::slots::size;
 ghost use mathlib.Core.Path.{_≡_};
@@ -81,15 +82,16 @@ pub fn compact(pkg: &mut [u8])
 {
     let n = get4(pkg, COUNT_AT);
     let e = get4(pkg, END_AT);
+    let t = guesses(pkg, n);
     let mut c = 0;
-    let mut r = lowest(pkg, n, 0);
+    let mut r = next_lowest(pkg, &t, n, 0);
     while r < n {
         let k = settle(pkg, r, c, e);
         if k == 0 {
             return;
         }
         c += k;
-        r = lowest(pkg, n, c);
+        r = next_lowest(pkg, &t, n, c);
     }
     put4(pkg, END_AT, c);
 }
