@@ -10,7 +10,8 @@ use lib.Dec.{ltb, eqb}
 use lib.ListN.{length, getD, take, length-map}
 use lib.Seq.{take-at}
 use borrow.Author.Tests.{ltb-true, ltb-false, lt-ltb, le-ltb, ne-eqb}
-use Rattle.chars.specs.Folding.{equivalent}
+use Rattle.chars.specs.Bytes.{slash}
+use Rattle.chars.specs.Folding.{fold, equivalent}
 use Rattle.chars.proofs.Bools.{and-left, and-right}
 use Rattle.model.specs.Sets.{Bytes, before, sameKey, held, lookup, any}
 use Rattle.model.specs.Places.{bound, place}
@@ -29,10 +30,19 @@ use Rattle.contract.specs.Rows.{tagOf, itemRow, otherRows, rowsFor, keyIn}
 use Rattle.contract.specs.Holds.{Holds}
 use Rattle.contract.specs.Searches.{Bounded}
 use Rattle.contract.proofs.ItemRows.{noItem, item-tag, item-prefix}
-use Rattle.items.specs.Clashes.{tagsDisagree, Counted, Grown, keyedAt, Keyed, opposedAt, Opposed, OpposedBefore, Clashing}
+use Rattle.items.specs.Clashes.{tagsDisagree, Counted, Grown, common, partedAt, Parted, extends, extendedAt, Extended, keyedAt, Keyed, opposedAt, Opposed, OpposedBefore, Clashing}
 use Rattle.items.proofs.Tags.{tags-disagree-is}
 use Rattle.items.proofs.Naming.{prefix-take}
 use Rattle.items.proofs.Locating.{bound-of, same-is}
+use Rattle.items.proofs.Growth.{none-grown}
+
+or-left-false : (a c : Bool) → (a || c) ≡ false → a ≡ false
+or-left-false true c e = e
+or-left-false false c e = refl
+
+or-right-false : (a c : Bool) → (a || c) ≡ false → c ≡ false
+or-right-false true c e = absurd (true≢false e)
+or-right-false false c e = e
 
 -- THE ORDER OF THE THREE
 module _ (s : Bytes) (xs : List Item) where
@@ -166,3 +176,25 @@ module _
 
         pub clash-0 : w ≡ false → Clashing b s 0
         clash-0 g = record { is = λ S h. first-0 s (S .items) (ap held (untaken S h q)) (agreeing S h) (sym (growing S h w ew) ∙ g) }
+
+      -- the rows beside r show that 11 does not hold
+      module _ (e : x ≡ false) (f : y ≡ false) (u : Bool) (eu : Parted b r (take n s) u) (v : Bool) (ev : Extended b r m (take n s) v) (k : (u || v) ≡ false) where
+        module _ (S : State) (h : Holds b S) where
+          unparted : 0 < r → partedAt b (r - 1) (prefixOf s) ≡ false
+          unparted z =
+              ap (partedAt b (r - 1)) (sym (prefix-take s n en)) ∙ ap (λ (t : Bool). t && partedAt b (r - 1) (take n s)) (sym (lt-ltb 0 r z))
+              ∙ sym (eu .is (h .lies .sound) (eb .within)) ∙ or-left-false u v k
+
+          unextended : r < length (S .items) → extendedAt b r (prefixOf s) ≡ false
+          unextended z =
+              ap (extendedAt b r) (sym (prefix-take s n en)) ∙ ap (λ (t : Bool). t && extendedAt b r (take n s)) (sym (lt-ltb r m (omega (arith, m-is S h))))
+              ∙ sym (ev .is (h .lies .sound) (ec .low)) ∙ or-right-false u v k
+
+          ungrown : Growing s (S .items) ≡ false
+          ungrown =
+              none-grown S (h .good) s r (r-is S h)
+              (λ z. ap (λ (a : Bytes). eqb (getD (prefixOf s) (common (fold a) (fold (prefixOf s))) 0) slash) (sym (item-prefix b S h (r - 1) (omega (arith, r-le S h q)))) ∙ unparted z)
+              (λ z. ap (λ (a : Bytes). extends a (prefixOf s)) (sym (item-prefix b S h r z)) ∙ unextended z)
+
+        pub clash-apart : Clashing b s 0
+        clash-apart = record { is = λ S h. first-0 s (S .items) (ap held (untaken S h q)) (neighbours S h q ∙ rw (y-is S h, f, x-is S h, e)) (ungrown S h) }

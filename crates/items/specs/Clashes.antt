@@ -1,12 +1,13 @@
 -- What the tests of a new item beside the held ones find. These are promises of inner functions.
 -- Assumes nothing.
-use Prim.Native.Nat.{ℕ, _+_, _-_, _/_, _%_, _≤_, _<_}
+use Prim.Native.Nat.{ℕ, suc, _+_, _-_, _/_, _%_, _≤_, _<_}
 use mathlib.Core.Path.{_≡_}
-use mathlib.Core.Bool.{Bool, not, _&&_, _||_}
-use mathlib.Core.List.{List}
+use mathlib.Core.Bool.{Bool, not, _&&_, _||_, cond}
+use mathlib.Core.List.{List, [], _∷_}
 use lib.Dec.{ltb, eqb}
-use lib.ListN.{length, take, drop}
-use Rattle.chars.specs.Folding.{equivalent}
+use lib.ListN.{length, getD, take, drop}
+use Rattle.chars.specs.Bytes.{slash}
+use Rattle.chars.specs.Folding.{fold, equivalent}
 use Rattle.model.specs.Sets.{Bytes, any}
 use Rattle.model.specs.Package.{State, grows}
 use Rattle.model.specs.Calls.{clash, putItemRefusal}
@@ -36,6 +37,30 @@ pub record Grown (b : List ℕ) (n : ℕ) (p : Bytes) (z : Bool) : Type 0 where
 -- the walk for it has passed the first i rows
 pub record GrownFrom (b : List ℕ) (n : ℕ) (p : Bytes) (i : ℕ) : Type 0 where
   pub is : Sound b → any (λ (r : Row). grows p (r .f0)) (take n (rowsOf b)) ≡ any (λ (r : Row). grows p (r .f0)) (drop i (take n (rowsOf b)))
+
+-- how many elements at the beginning of two lists are the same
+unfoldable pub common : List ℕ → List ℕ → ℕ
+common [] t = 0
+common (x ∷ s) [] = 0
+common (x ∷ s) (y ∷ t) = cond (eqb x y) (suc (common s t)) 0
+
+-- the prefix of row i and p part where p has a slash
+abbrev pub partedAt : List ℕ → ℕ → Bytes → Bool
+partedAt b i p = eqb (getD p (common (fold (fieldOf (rowAt b i) 0)) (fold p)) 0) slash
+
+pub record Parted (b : List ℕ) (r : ℕ) (p : Bytes) (z : Bool) : Type 0 where
+  pub is : Sound b → r ≤ countOf b → z ≡ (ltb 0 r && partedAt b (r - 1) p)
+
+-- q is p and more
+abbrev pub extends : Bytes → Bytes → Bool
+extends q p = ltb (length p) (length q) && equivalent (take (length p) q) p
+
+-- the prefix of row i is p and more
+abbrev pub extendedAt : List ℕ → ℕ → Bytes → Bool
+extendedAt b i p = extends (fieldOf (rowAt b i) 0) p
+
+pub record Extended (b : List ℕ) (i m : ℕ) (p : Bytes) (z : Bool) : Type 0 where
+  pub is : Sound b → m ≤ countOf b → z ≡ (ltb i m && extendedAt b i p)
 
 -- row i has the prefix p and the number of the tag t
 abbrev pub keyedAt : List ℕ → ℕ → Bytes → ℕ → Bool

@@ -1,6 +1,10 @@
 // Whether a new item may stand beside the held ones: refusals 10, 12, 11 and 15.
 use chars::folding::is_derivable;
 use chars::folding::is_equivalent;
+use chars::folding::is_same_letter;
+use chars::numbers::smaller;
+use chars::search::byte_at;
+use chars::starts::same_start;
 use contract::search::bound;
 use store::header::count;
 use store::header::free;
@@ -11,13 +15,14 @@ ghost use mathlib.Core.Bool.{_||_};
 ghost use Prim.Native.Nat.{_≤_, _<_};
 ghost use mathlib.Core.List.{[]};
 ghost use lib.ListN.{length, take};
+ghost use Rattle.chars.specs.Folding.{fold};
 ghost use Rattle.model.specs.Fields.{itemField, prefixOf, suffixOf};
 ghost use Rattle.model.specs.Package.{grows};
 ghost use Rattle.store.specs.Layout.{countOf};
 ghost use Rattle.store.specs.Packages.{Shape};
 ghost use Rattle.contract.specs.Rows.{tagOf, keyIn};
 ghost use Rattle.contract.specs.Searches.{Bounded};
-ghost use Rattle.items.specs.Clashes.{tagsDisagree, Counted, Grown, Keyed, Opposed, OpposedBefore, Clashing, Cleared};
+ghost use Rattle.items.specs.Clashes.{tagsDisagree, Counted, Grown, common, Parted, extends, Extended, Keyed, Opposed, OpposedBefore, Clashing, Cleared};
 
 // How many items there are.
 pub(crate) fn item_count(pkg: &[u8]) -> usize
@@ -59,6 +64,53 @@ fn has_grown(pkg: &[u8], n: usize, p: &[u8]) -> bool
     false
 }
 
+// How many bytes at the beginning are the same in both, folded.
+fn common_start(a: &[u8], b: &[u8]) -> usize
+    ensures { λ r. ⌜ (r ≡ common (fold (now (a .entry))) (fold (now (b .entry)))) × (r ≤ length (now (b .entry))) ⌝ }
+{
+    let n = smaller(a.len(), b.len());
+    let mut i = same_start(true, a, b);
+    while i < n {
+        if is_same_letter(a[i], b[i]) {
+            i += 1;
+        } else {
+            return i;
+        }
+    }
+    i
+}
+
+// The prefix of the row before row r and p part where p has a slash.
+fn is_parted(pkg: &[u8], r: usize, p: &[u8]) -> bool
+    ensures { λ z. ⌜ Parted (now (pkg .entry)) r (now (p .entry)) z ⌝ }
+{
+    if r == 0 {
+        return false;
+    }
+    byte_at(p, common_start(field(pkg, r - 1, 0), p)) == b'/'
+}
+
+// q is p and more.
+fn is_longer(q: &[u8], p: &[u8]) -> bool
+    ensures { λ r. ⌜ r ≡ extends (now (q .entry)) (now (p .entry)) ⌝ }
+{
+    let n = p.len();
+    if n < q.len() {
+        return is_equivalent(&q[..n], p);
+    }
+    false
+}
+
+// Row i is one of the m items, and its prefix is p and more.
+fn is_extended(pkg: &[u8], i: usize, m: usize, p: &[u8]) -> bool
+    ensures { λ z. ⌜ Extended (now (pkg .entry)) i m (now (p .entry)) z ⌝ }
+{
+    if m <= i {
+        return false;
+    }
+    is_longer(field(pkg, i, 0), p)
+}
+
 // Row i is one of the m items and has the key of a new one.
 fn is_keyed(pkg: &[u8], i: usize, m: usize, p: &[u8], t: usize) -> bool
     ensures { λ r. ⌜ Keyed (now (pkg .entry)) i m (now (p .entry)) t r ⌝ }
@@ -95,7 +147,8 @@ fn is_opposed_before(pkg: &[u8], r: usize, m: usize, p: &[u8], t: usize) -> bool
     is_opposed(pkg, r - 1, m, p, t)
 }
 
-// 10, 12, 11 or 0, for a new item that would be row r of m items: only the rows beside r can have its key or disagree with it.
+// 10, 12, 11 or 0, for a new item that would be row r of m items: only the rows beside r can have its key or disagree with it, and mostly they
+// show that no prefix is derivable from its prefix, or that from one.
 fn clash_of(pkg: &[u8], s: &[u8], n: usize, t: usize, r: usize, m: usize) -> u8
     requires { ⌜ (n ≡ length (prefixOf (now s))) × (t ≡ tagOf (suffixOf (now s))) ⌝ }
     requires { ⌜ Bounded (now pkg) (keyIn 0 (take n (now s)) t []) r ⌝ }
@@ -111,8 +164,10 @@ fn clash_of(pkg: &[u8], s: &[u8], n: usize, t: usize, r: usize, m: usize) -> u8
     if is_opposed_before(pkg, r, m, &s[..n], t) {
         return 12;
     }
-    if has_grown(pkg, m, &s[..n]) {
-        return 11;
+    if is_parted(pkg, r, &s[..n]) | is_extended(pkg, r, m, &s[..n]) {
+        if has_grown(pkg, m, &s[..n]) {
+            return 11;
+        }
     }
     0
 }

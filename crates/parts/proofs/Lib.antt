@@ -1,5 +1,6 @@
 pub mod LastItems
 pub mod GroupRuns
+pub mod GroupEnds
 pub mod PartWalks
 pub mod OutputCopies
 pub mod TextAnswers

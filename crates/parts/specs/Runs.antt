@@ -1,7 +1,7 @@
 -- The rows of a group, and whether it is a part. These are promises of inner functions: what a buffer's rows tell of the package that it
 -- holds, if it holds one.
 -- Assumes nothing.
-use Prim.Native.Nat.{ℕ, _+_, _-_, _≤_}
+use Prim.Native.Nat.{ℕ, _+_, _-_, _≤_, _<_}
 use mathlib.Core.Path.{_≡_}
 use mathlib.Core.Bool.{Bool, true}
 use mathlib.Core.List.{List}
@@ -12,6 +12,7 @@ use Rattle.model.specs.Places.{lead}
 use Rattle.model.specs.Fields.{prefixOf}
 use Rattle.model.specs.Package.{Item, State, group, isPart}
 use Rattle.store.specs.Layout.{slotCount}
+use Rattle.store.specs.Rows.{rowAt, fieldOf}
 use Rattle.contract.specs.Holds.{Holds}
 
 -- the items in the rows from f up to t, t itself not included
@@ -38,6 +39,12 @@ pub record Ended (b : List ℕ) (i n : ℕ) (p : Bytes) (e : ℕ) : Type 0 where
   pub low : i ≤ e
   pub high : (m : ℕ) → i ≤ m → n ≤ m → e ≤ m
   pub is : (S : State) → Holds b S → n ≡ length (S .items) → e ≡ i + lead (inGroup p) (drop i (S .items))
+
+-- the items of the group p that stand side by side end before row r, where the row before row e is one of them
+pub record EndedBehind (b : List ℕ) (e n : ℕ) (p : Bytes) (r : ℕ) : Type 0 where
+  pub low : e ≤ r
+  pub high : r ≤ n
+  pub is : (S : State) → Holds b S → n ≡ length (S .items) → 0 < e → equivalent (fieldOf (rowAt b (e - 1)) 0) p ≡ true → r ≡ e + lead (inGroup p) (drop e (S .items))
 
 -- z tells whether the rows from f to t, which are of one group, are a part
 pub record Judged (b : List ℕ) (f t : ℕ) (z : Bool) : Type 0 where

@@ -4,9 +4,9 @@ use contract::search::bound;
 use store::rows::field;
 use store::rows::tag;
 ghost use Prim.Native.Nat.{_≤_};
-ghost use Rattle.store.specs.Layout.{slotCount};
+ghost use Rattle.store.specs.Layout.{slotCount, countOf};
 ghost use Rattle.store.specs.Packages.{Shape};
-ghost use Rattle.parts.specs.Runs.{Counted, Ended, Judged, Grouped, PartOf};
+ghost use Rattle.parts.specs.Runs.{Counted, Ended, EndedBehind, Judged, Grouped, PartOf};
 
 // Rows that stand side by side: from the first up to, not including, the row `to`.
 pub struct Run {
@@ -22,8 +22,24 @@ pub fn count_items(pkg: &[u8]) -> usize
     bound(pkg, 1, b"", 0, b"")
 }
 
-// Where the items of the group p that stand side by side from row i on end, before row n.
+// Where they end, if the row before row e is one of them, by halving: no item has so great a number.
+fn end_behind(pkg: &[u8], e: usize, n: usize, p: &[u8]) -> usize
+    requires { ⌜ (countOf (now pkg) ≤ slotCount) × (e ≤ n) ⌝ }
+    ensures { λ r. ⌜ EndedBehind (now (pkg .entry)) e n (now (p .entry)) r ⌝ }
+{
+    let r = bound(pkg, 0, p, 65534, b"");
+    if r <= e {
+        return e;
+    }
+    if n <= r {
+        return n;
+    }
+    r
+}
+
+// Where the items of the group p that stand side by side from row i on end, before row n. Most groups have one item, or few.
 pub fn group_end(pkg: &[u8], i: usize, n: usize, p: &[u8]) -> usize
+    requires { ⌜ countOf (now pkg) ≤ slotCount ⌝ }
     ensures { λ r. ⌜ Ended (now (pkg .entry)) i n (now (p .entry)) r ⌝ }
 {
     let mut e = i;
@@ -32,6 +48,9 @@ pub fn group_end(pkg: &[u8], i: usize, n: usize, p: &[u8]) -> usize
             return e;
         }
         e += 1;
+        if e - i == 4 {
+            return end_behind(pkg, e, n, p);
+        }
     }
     e
 }

@@ -1,5 +1,5 @@
 use Rattle.items.proofs.Naming.{prefix-slice}
-use Rattle.items.proofs.Clashing.{clash-10, clash-12, clash-12-before, clash-11, clash-0}
+use Rattle.items.proofs.Clashing.{clash-10, clash-12, clash-12-before, clash-11, clash-0, clash-apart}
 use borrow.Author.Needs.{needs}
 use Rattle.items.proofs.clashes.clash_of.Statement.{statement}
 use Rattle.items.proofs.clashes.clash_of.Tie as tie
@@ -31,17 +31,32 @@ is-opposed-before-requires c κs = search needs
 returns-3 : tie.Need-returns-3
 returns-3 c = clash-12-before _ _ _ _ (c .before .before .before .before .before .before .before .before .before .before .before .pre .0 .0) (c .before .before .before .before .before .before .before .before .before .before .before .pre .0 .1) _ _ (c .before .before .before .before .before .before .before .before .before .before .before .pre .1 .0) (c .before .before .before .before .before .before .before .before .before .before .before .pre .1 .1) _ (c .before .before .before .before .before .before .before .is-keyed .ensures) (c .before .before .before .before .before .before .if1 .left) _ (c .before .before .before .before .is-opposed .ensures) _ (c .before .is-opposed-before .ensures) (c .if3 .taken)
 
+slice-aggregate-is-parted : tie.Need-slice-aggregate-is-parted
+slice-aggregate-is-parted c = prefix-slice _ _ (c .before .before .before .before .before .before .before .before .before .before .before .before .pre .0 .0)
+
+is-parted-requires : tie.Need-is-parted-requires
+is-parted-requires c κs = search needs
+
+slice-aggregate-is-extended : tie.Need-slice-aggregate-is-extended
+slice-aggregate-is-extended c = prefix-slice _ _ (c .before .before .before .before .before .before .before .before .before .before .before .before .before .before .pre .0 .0)
+
+is-extended-requires : tie.Need-is-extended-requires
+is-extended-requires c κs = search needs
+
 slice-aggregate-has-grown : tie.Need-slice-aggregate-has-grown
-slice-aggregate-has-grown c = prefix-slice _ _ (c .before .before .before .before .before .before .before .before .before .before .before .before .pre .0 .0)
+slice-aggregate-has-grown c = prefix-slice _ _ (c .before .before .before .before .before .before .before .before .before .before .before .before .before .before .before .before .before .pre .0 .0)
 
 has-grown-requires : tie.Need-has-grown-requires
 has-grown-requires c κs = search needs
 
 returns-4 : tie.Need-returns-4
-returns-4 c = clash-11 _ _ _ _ (c .before .before .before .before .before .before .before .before .before .before .before .before .before .before .pre .0 .0) (c .before .before .before .before .before .before .before .before .before .before .before .before .before .before .pre .0 .1) _ _ (c .before .before .before .before .before .before .before .before .before .before .before .before .before .before .pre .1 .0) (c .before .before .before .before .before .before .before .before .before .before .before .before .before .before .pre .1 .1) _ (c .before .before .before .before .before .before .before .before .before .before .is-keyed .ensures) (c .before .before .before .before .before .before .before .before .before .if1 .left) _ (c .before .before .before .before .before .before .before .is-opposed .ensures) _ (c .before .before .before .before .is-opposed-before .ensures) (c .before .before .before .before .before .before .if2 .left) (c .before .before .before .if3 .left) _ (c .before .has-grown .ensures) (c .if4 .taken)
+returns-4 c = clash-11 _ _ _ _ (c .before .before .before .before .before .before .before .before .before .before .before .before .before .before .before .before .before .before .before .pre .0 .0) (c .before .before .before .before .before .before .before .before .before .before .before .before .before .before .before .before .before .before .before .pre .0 .1) _ _ (c .before .before .before .before .before .before .before .before .before .before .before .before .before .before .before .before .before .before .before .pre .1 .0) (c .before .before .before .before .before .before .before .before .before .before .before .before .before .before .before .before .before .before .before .pre .1 .1) _ (c .before .before .before .before .before .before .before .before .before .before .before .before .before .before .before .is-keyed .ensures) (c .before .before .before .before .before .before .before .before .before .before .before .before .before .before .if1 .left) _ (c .before .before .before .before .before .before .before .before .before .before .before .before .is-opposed .ensures) _ (c .before .before .before .before .before .before .before .before .before .is-opposed-before .ensures) (c .before .before .before .before .before .before .before .before .before .before .before .if2 .left) (c .before .before .before .before .before .before .before .before .if3 .left) _ (c .before .has-grown .ensures) (c .if5 .taken)
 
 returns-5 : tie.Need-returns-5
-returns-5 c = clash-0 _ _ _ _ (c .before .before .before .before .before .before .before .before .before .before .before .before .before .before .pre .0 .0) (c .before .before .before .before .before .before .before .before .before .before .before .before .before .before .pre .0 .1) _ _ (c .before .before .before .before .before .before .before .before .before .before .before .before .before .before .pre .1 .0) (c .before .before .before .before .before .before .before .before .before .before .before .before .before .before .pre .1 .1) _ (c .before .before .before .before .before .before .before .before .before .before .is-keyed .ensures) (c .before .before .before .before .before .before .before .before .before .if1 .left) _ (c .before .before .before .before .before .before .before .is-opposed .ensures) _ (c .before .before .before .before .is-opposed-before .ensures) (c .before .before .before .before .before .before .if2 .left) (c .before .before .before .if3 .left) _ (c .before .has-grown .ensures) (c .if4 .left)
+returns-5 c = clash-0 _ _ _ _ (c .before .before .before .before .before .before .before .before .before .before .before .before .before .before .before .before .before .before .before .pre .0 .0) (c .before .before .before .before .before .before .before .before .before .before .before .before .before .before .before .before .before .before .before .pre .0 .1) _ _ (c .before .before .before .before .before .before .before .before .before .before .before .before .before .before .before .before .before .before .before .pre .1 .0) (c .before .before .before .before .before .before .before .before .before .before .before .before .before .before .before .before .before .before .before .pre .1 .1) _ (c .before .before .before .before .before .before .before .before .before .before .before .before .before .before .before .is-keyed .ensures) (c .before .before .before .before .before .before .before .before .before .before .before .before .before .before .if1 .left) _ (c .before .before .before .before .before .before .before .before .before .before .before .before .is-opposed .ensures) _ (c .before .before .before .before .before .before .before .before .before .is-opposed-before .ensures) (c .before .before .before .before .before .before .before .before .before .before .before .if2 .left) (c .before .before .before .before .before .before .before .before .if3 .left) _ (c .before .has-grown .ensures) (c .if5 .left)
+
+returns-6 : tie.Need-returns-6
+returns-6 c = clash-apart _ _ _ _ (c .before .before .before .before .before .before .before .before .before .before .before .before .before .before .before .before .pre .0 .0) (c .before .before .before .before .before .before .before .before .before .before .before .before .before .before .before .before .pre .0 .1) _ _ (c .before .before .before .before .before .before .before .before .before .before .before .before .before .before .before .before .pre .1 .0) (c .before .before .before .before .before .before .before .before .before .before .before .before .before .before .before .before .pre .1 .1) _ (c .before .before .before .before .before .before .before .before .before .before .before .before .is-keyed .ensures) (c .before .before .before .before .before .before .before .before .before .before .before .if1 .left) _ (c .before .before .before .before .before .before .before .before .before .is-opposed .ensures) _ (c .before .before .before .before .before .before .is-opposed-before .ensures) (c .before .before .before .before .before .before .before .before .if2 .left) (c .before .before .before .before .before .if3 .left) _ (c .before .before .before .is-parted .ensures) _ (c .before .is-extended .ensures) (c .if4 .left)
 
 pub clash-of-spec : {M : Type 1} → statement M
 clash-of-spec =
@@ -56,7 +71,12 @@ clash-of-spec =
     slice-aggregate-is-opposed-before
     is-opposed-before-requires
     returns-3
+    slice-aggregate-is-parted
+    is-parted-requires
+    slice-aggregate-is-extended
+    is-extended-requires
     slice-aggregate-has-grown
     has-grown-requires
     returns-4
-    returns-5)
+    returns-5
+    returns-6)

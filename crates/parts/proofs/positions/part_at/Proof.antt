@@ -18,7 +18,7 @@ count-items-requires : tie.Need-count-items-requires
 count-items-requires c κs = opened-shape _ _ (c .before .is-package .ensures) (c .if1 .left)
 
 walk-requires : tie.Need-walk-requires
-walk-requires c κs = search needs
+walk-requires c κs = (c .count-items .ensures .few, opened-shape _ _ (c .before .before .is-package .ensures) (c .before .if1 .left) .few)
 
 returns-2 : tie.Need-returns-2
 returns-2 c = position-missing _ (opened _ _ (c .before .before .before .before .is-package .ensures) (c .before .before .before .if1 .left)) _ (c .before .before .count-items .ensures) _ _ _ (c .before .walk .ensures) (c .before .before .before .before .before .before .before .args .out .now) (c .if2 .taken)

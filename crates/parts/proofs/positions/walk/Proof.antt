@@ -16,7 +16,7 @@ loop-holds : tie.Need-loop-holds Inv-loop μ-loop
 loop-holds c = walking-begin _ _ _
 
 add-group-end : tie.Need-add-group-end Inv-loop μ-loop
-add-group-end c = omega (arith, c .before .before .before .pre)
+add-group-end c = omega (arith, c .before .before .before .pre .0)
 
 field-requires : tie.Need-field-requires Inv-loop μ-loop
 field-requires c κs = search needs
@@ -25,7 +25,7 @@ group-end-requires : tie.Need-group-end-requires Inv-loop μ-loop
 group-end-requires c κs = search needs
 
 makes-part-requires : tie.Need-makes-part-requires Inv-loop μ-loop
-makes-part-requires c κs = c .group-end .ensures .high _ (omega (arith, c .before .before .before .before .before .pre)) (c .before .before .before .before .before .pre)
+makes-part-requires c κs = c .group-end .ensures .high _ (omega (arith, c .before .before .before .before .before .pre .0)) (c .before .before .before .before .before .pre .0)
 
 returns : tie.Need-returns Inv-loop μ-loop
 returns c = walked-stop _ _ _ _ _ (c .before .before .before .before .before .loop .inv) (c .before .before .before .before .loop-test .taken) _ (c .before .before .before .field .ensures .2) _ (c .before .before .group-end .ensures) _ (c .before .makes-part .ensures) (c .if1 .taken)
@@ -34,7 +34,7 @@ one-if-requires : tie.Need-one-if-requires Inv-loop μ-loop
 one-if-requires c κs = search needs
 
 add-passed : tie.Need-add-passed Inv-loop μ-loop
-add-passed c = omega (arith, c .before .before .before .before .before .before .before .before .pre, c .before .before .before .before .before .before .loop .inv .few, c .one-if .ensures .1)
+add-passed c = omega (arith, c .before .before .before .before .before .before .before .before .pre .0, c .before .before .before .before .before .before .loop .inv .few, c .one-if .ensures .1)
 
 loop-less : tie.Need-loop-less Inv-loop μ-loop
 loop-less c = omega (arith, c .before .before .before .group-end .ensures .low)

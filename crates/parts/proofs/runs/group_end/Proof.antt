@@ -1,7 +1,9 @@
 use Prim.Native.Nat.{_-_}
+use native.Mathlib.Omega.{arith}
 use borrow.Author.Needs.{needs}
 use Rattle.parts.specs.Runs.{Ending}
 use Rattle.parts.proofs.GroupRuns.{ending-begin, ending-more, ended-stop, ended-end}
+use Rattle.parts.proofs.GroupEnds.{ended-behind}
 use Rattle.parts.proofs.runs.group_end.Statement.{statement}
 use Rattle.parts.proofs.runs.group_end.Tie as tie
 
@@ -26,14 +28,23 @@ returns c = ended-stop _ _ _ _ _ (c .before .before .before .before .loop .inv) 
 add-e : tie.Need-add-e Inv-loop μ-loop
 add-e c = search needs
 
-loop-less : tie.Need-loop-less Inv-loop μ-loop
-loop-less c = search needs
+sub-if2 : tie.Need-sub-if2 Inv-loop μ-loop
+sub-if2 c = omega (arith, c .before .before .before .before .loop .inv .low)
 
-loop-again : tie.Need-loop-again Inv-loop μ-loop
-loop-again c = ending-more _ _ _ _ _ (c .before .before .before .before .loop .inv) (c .before .before .before .loop-test .taken) _ (c .before .before .field .ensures .2) _ (c .before .is-equivalent .ensures) (c .if1 .left)
+end-behind-requires : tie.Need-end-behind-requires Inv-loop μ-loop
+end-behind-requires c κs = (c .before .before .before .before .before .before .before .before .pre, omega (arith, c .before .before .before .before .loop-test .taken))
 
 returns-2 : tie.Need-returns-2 Inv-loop μ-loop
-returns-2 c = ended-end _ _ _ _ _ (c .before .loop .inv) (c .loop-test .left)
+returns-2 c = ended-behind _ _ _ _ _ (c .before .before .before .before .before .before .loop .inv) (c .before .before .before .before .before .loop-test .taken) _ (c .before .before .before .before .field .ensures .2) _ (c .before .before .before .is-equivalent .ensures) (c .before .before .if1 .left) _ (c .end-behind .ensures)
+
+loop-less : tie.Need-loop-less Inv-loop μ-loop
+loop-less c = omega (arith, c .before .before .before .before .loop-test .taken)
+
+loop-again : tie.Need-loop-again Inv-loop μ-loop
+loop-again c = ending-more _ _ _ _ _ (c .before .before .before .before .before .loop .inv) (c .before .before .before .before .loop-test .taken) _ (c .before .before .before .field .ensures .2) _ (c .before .before .is-equivalent .ensures) (c .before .if1 .left)
+
+returns-3 : tie.Need-returns-3 Inv-loop μ-loop
+returns-3 c = ended-end _ _ _ _ _ (c .before .loop .inv) (c .loop-test .left)
 
 pub group-end-spec : {M : Type 1} → statement M
 group-end-spec =
@@ -46,6 +57,9 @@ group-end-spec =
     is-equivalent-requires
     returns
     add-e
+    sub-if2
+    end-behind-requires
+    returns-2
     loop-less
     loop-again
-    returns-2)
+    returns-3)

@@ -17,7 +17,7 @@ count-items-requires : tie.Need-count-items-requires
 count-items-requires c κs = opened-shape _ _ (c .before .is-package .ensures) (c .if1 .left)
 
 walk-requires : tie.Need-walk-requires
-walk-requires c κs = search needs
+walk-requires c κs = (c .count-items .ensures .few, opened-shape _ _ (c .before .before .is-package .ensures) (c .before .if1 .left) .few)
 
 used-requires : tie.Need-used-requires
 used-requires c κs = search needs

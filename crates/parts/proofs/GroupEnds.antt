@@ -1,0 +1,131 @@
+-- Where a group ends, by halving: at the bound of its prefix with a number that no item has.
+-- Assumes nothing.
+use Prim.Native.Nat.{ℕ, suc, _+_, _-_, _/_, _≤_, _<_}
+use mathlib.Core.Path.{_≡_, refl, ap, sym, _∙_}
+use mathlib.Core.Bool.{Bool, true, false, not, true≢false}
+use mathlib.Core.List.{List, [], _∷_}
+use native.Mathlib.Omega.{arith}
+use lib.Dec.{ltb}
+use lib.ListN.{length, getD, drop, length-drop}
+use lib.Seq.{getD-drop}
+use borrow.Author.Tests.{lt-ltb, ltb-true, ltb-false, not-true, not-false}
+use Rattle.chars.specs.Folding.{fold, equivalent, order}
+use Rattle.chars.specs.declared.folding.Order.{Order}
+use Rattle.chars.specs.declared.folding.Order.the-variants.{Less, Greater}
+use Rattle.chars.proofs.Orders.{order-refl, order-less}
+use Rattle.chars.proofs.Equivalence.{equivalent-fold, fold-equivalent}
+use Rattle.model.specs.Sets.{Bytes, Key, thenBy, keyOrder, isLess, before, Sorted}
+use Rattle.model.specs.Places.{bound, lead}
+use Rattle.model.specs.Fields.{prefixOf, suffixOf}
+use Rattle.model.specs.Package.{Item, State, rank, keyOfItem}
+use Rattle.model.proofs.Lists.{pairs-at}
+use Rattle.model.proofs.Walks.{first-le, first-passes, before-first, first-at}
+use Rattle.model.proofs.KeyOrders.{begins-less}
+use Rattle.model.proofs.Places.{not-before-monotone}
+use Rattle.store.specs.Layout.{countOf}
+use Rattle.store.specs.Rows.{rowAt, fieldOf}
+use Rattle.store.specs.Packages.{Sound}
+use Rattle.contract.specs.Rows.{tagOf, keyIn}
+use Rattle.contract.specs.Holds.{Holds}
+use Rattle.contract.specs.Searches.{Bounded}
+use Rattle.contract.proofs.ItemRows.{noItem, items-le, item-prefix, item-bound}
+use Rattle.contract.proofs.RowKeys.{tag-small, tag-half}
+use Rattle.parts.specs.Runs.{inGroup, Ending, Ended, EndedBehind}
+use Rattle.parts.proofs.GroupRuns.{ending-more}
+
+-- the key of p with a number above all
+abbrev above : Bytes → Key
+above p = (fold p, 65534 / 2 ∷ [])
+
+rank-small : (i : Item) → rank (suffixOf (i .name)) < 32767
+rank-small i = omega (arith, tag-half (suffixOf (i .name)), tag-small (i .name))
+
+module _ (p : Bytes) where
+  group-below : (i : Item) → inGroup p i ≡ true → before (keyOfItem i) (above p) ≡ true
+  unfolding keyOrder thenBy order
+  group-below i g = rw (equivalent-fold (prefixOf (i .name)) p g, order-refl (fold p), lt-ltb (rank (suffixOf (i .name))) 32767 (rank-small i))
+
+  -- j stands behind i, which is of the group
+  other-above : (i j : Item) → inGroup p i ≡ true → before (keyOfItem i) (keyOfItem j) ≡ true → inGroup p j ≡ false → before (keyOfItem j) (above p) ≡ false
+  unfolding keyOrder thenBy
+  other-above i j g l n =
+      let e : fold (prefixOf (i .name)) ≡ fold p = equivalent-fold (prefixOf (i .name)) p g in
+      let u : order (fold (prefixOf (i .name))) (fold (prefixOf (j .name))) ≡ Less =
+      begins-less (keyOfItem i) (keyOfItem j) l (λ f. true≢false (sym (fold-equivalent (prefixOf (j .name)) p (sym f ∙ e)) ∙ n)) in
+      let v : order (fold (prefixOf (j .name))) (fold p) ≡ Greater =
+      ap (λ (s : Bytes). order (fold (prefixOf (j .name))) s) (sym e) ∙ order-less (fold (prefixOf (i .name))) (fold (prefixOf (j .name))) u in
+      ap (λ (o : Order). isLess (thenBy o (order (keyOfItem j .1) (65534 / 2 ∷ [])))) v
+
+  -- item e is of the group
+  module _ (xs : List Item) (s : Sorted keyOfItem xs) (e : ℕ) (l : e < length xs) (g : inGroup p (getD xs e noItem) ≡ true) where
+    more : ℕ
+    more = lead (inGroup p) (drop (e + 1) xs)
+
+    more-le : more ≤ length xs - (e + 1)
+    unfolding more
+    more-le = rw (← length-drop (e + 1) xs) (first-le (λ (i : Item). not (inGroup p i)) (drop (e + 1) xs))
+
+    in-run : (j : ℕ) → e ≤ j → j < e + 1 + more → inGroup p (getD xs j noItem) ≡ true
+    unfolding more
+    in-run j a b = go (ltb e j) refl
+      where
+        go : (t : Bool) → ltb e j ≡ t → inGroup p (getD xs j noItem) ≡ true
+        go false f = let z : j ≡ e = omega (arith, ltb-false e j f) in ap (λ (k : ℕ). inGroup p (getD xs k noItem)) z ∙ g
+        go true f =
+            let m = ltb-true e j f in
+            let z : e + 1 + (j - (e + 1)) ≡ j = omega arith in
+            let k : not (inGroup p (getD (drop (e + 1) xs) (j - (e + 1)) noItem)) ≡ false = before-first (λ (i : Item). not (inGroup p i)) (drop (e + 1) xs) (j - (e + 1)) noItem (omega arith) in
+            ap (λ (i : ℕ). inGroup p (getD xs i noItem)) (sym z) ∙ ap (inGroup p) (sym (getD-drop (e + 1) xs (j - (e + 1)) noItem)) ∙ not-false (inGroup p (getD (drop (e + 1) xs) (j - (e + 1)) noItem)) k
+
+    pub end-bound : bound keyOfItem (above p) xs ≡ e + 1 + lead (inGroup p) (drop (e + 1) xs)
+    unfolding more
+    end-bound = first-at (λ (i : Item). not (before (keyOfItem i) (above p))) xs (e + 1 + more) noItem (not-before-monotone keyOfItem (above p) xs s) (omega (arith, more-le)) below over
+      where
+        below : (j : ℕ) → e + 1 + more ≡ suc j → not (before (keyOfItem (getD xs j noItem)) (above p)) ≡ false
+        below j z = ap not (group-below (getD xs j noItem) (in-run j (omega arith) (omega arith)))
+
+        over : e + 1 + more < length xs → not (before (keyOfItem (getD xs (e + 1 + more) noItem)) (above p)) ≡ true
+        over k =
+            let d : length (drop (e + 1) xs) ≡ length xs - (e + 1) = length-drop (e + 1) xs in
+            let f : not (inGroup p (getD (drop (e + 1) xs) more noItem)) ≡ true = first-passes (λ (i : Item). not (inGroup p i)) (drop (e + 1) xs) noItem (omega arith) in
+            ap not
+            (other-above (getD xs e noItem) (getD xs (e + 1 + more) noItem) g (pairs-at (λ (i j : Item). before (keyOfItem i) (keyOfItem j) ≡ true) xs e (e + 1 + more) noItem (omega arith) k s)
+            (ap (inGroup p) (sym (getD-drop (e + 1) xs more noItem)) ∙ not-true (inGroup p (getD (drop (e + 1) xs) more noItem)) f))
+
+-- ROWS
+module _ (b : List ℕ) (e n : ℕ) (p : Bytes) (l : e ≤ n) (id : Bytes) (r : ℕ) (er : Bounded b (keyIn 0 p 65534 id) r) where
+  end-is : (S : State) → Holds b S → n ≡ length (S .items) → 0 < e → equivalent (fieldOf (rowAt b (e - 1)) 0) p ≡ true → r ≡ e + lead (inGroup p) (drop e (S .items))
+  end-is S h k z g =
+      let m : e - 1 < length (S .items) = omega arith in
+      let q : e - 1 + 1 ≡ e = omega arith in
+      item-bound b S h p 65534 id r er
+      ∙ end-bound p (S .items) (h .good .items .sorted) (e - 1) m (ap (λ (s : Bytes). equivalent s p) (sym (item-prefix b S h (e - 1) m)) ∙ g)
+      ∙ ap (λ (i : ℕ). i + lead (inGroup p) (drop i (S .items))) q
+
+  pub behind-low : r ≤ e → EndedBehind b e n p e
+  behind-low q = record { low = omega arith; high = l; is = λ S h k z g. omega (arith, end-is S h k z g) }
+
+  pub behind-high : n ≤ r → EndedBehind b e n p n
+  behind-high q = record {
+    low = l;
+    high = omega arith;
+    is = λ S h k z g.
+        let a : lead (inGroup p) (drop e (S .items)) ≤ length (S .items) - e = rw (← length-drop e (S .items)) (first-le (λ (i : Item). not (inGroup p i)) (drop e (S .items))) in
+        omega (arith, end-is S h k z g);
+  }
+
+  pub behind-between : e < r → r < n → EndedBehind b e n p r
+  behind-between q u = record { low = omega arith; high = omega arith; is = end-is }
+
+-- a walk that has come to row e, which is of the group, and the end behind it
+pub ended-behind :
+    (b : List ℕ) (i n : ℕ) (p : Bytes) (e : ℕ) (w : Ending b i n p e) (l : e < n) (f : Bytes) (ef : Sound b → e < countOf b → f ≡ fieldOf (rowAt b e) 0) (z : Bool) (ez : z ≡ equivalent f p) →
+    not z ≡ false → (r : ℕ) → EndedBehind b (e + 1) n p r → Ended b i n p r
+ended-behind b i n p e w l f ef z ez t r x = record {
+  low = omega (arith, w .low, x .low);
+  high = λ m y u. omega (arith, x .high);
+  is = λ S h k.
+      let q : e + 1 - 1 ≡ e = omega arith in
+      let g : equivalent (fieldOf (rowAt b e) 0) p ≡ true = ap (λ (s : Bytes). equivalent s p) (sym (ef (h .lies .sound) (omega (arith, items-le b S h)))) ∙ sym ez ∙ not-false z t in
+      x .is S h k (omega arith) (ap (λ (j : ℕ). equivalent (fieldOf (rowAt b j) 0) p) q ∙ g) ∙ sym (ending-more b i n p e w l f ef z ez t .is S h k);
+}
