@@ -107,6 +107,42 @@ module _ (b : List ℕ) (i set : ℕ) (p : Bytes) (t : ℕ) (id : Bytes) (u own 
         (stands-same b i set p t id u own eu eo (omega arith) (omega arith) f ef (foldedOrder f p) refl g eg r
         (then-equal (foldedOrder f p) r (order (second set u g) (second set t id)) (equivalent-equal f p (sym ey ∙ not-false y n)) er)) z ez
 
+-- THE LEAST KEY OF A SET: no row of the set is before it
+least-second : (set t : ℕ) (id : Bytes) → isLess (order (second set t id) (second set 0 [])) ≡ false
+unfolding second order
+least-second set t id = go (eqb set 0) (eqb set 3) id
+  where
+    number : (x : ℕ) (q : Bool) → isLess (cond q Greater Equal) ≡ false
+    number x true = refl
+    number x false = refl
+
+    go : (p q : Bool) (id : Bytes) → isLess (order (cond p (t / 2 ∷ []) (cond q id [])) (cond p (0 / 2 ∷ []) (cond q [] []))) ≡ false
+    go true q id = rw (le-ltb (t / 2) 0 (omega arith)) (number t (ltb 0 (t / 2)))
+    go false true [] = refl
+    go false true (x ∷ id) = refl
+    go false false id = refl
+
+least-key : (set t : ℕ) (f id : Bytes) → isLess (thenBy (foldedOrder f []) (order (second set t id) (second set 0 []))) ≡ false
+unfolding foldedOrder thenBy order
+least-key set t [] id = least-second set t id
+least-key set t (x ∷ f) id = refl
+
+module _ (b : List ℕ) (i set : ℕ) (u own : ℕ) (eu : Shape b → i < countOf b → u ≡ tagAt b i) (eo : own ≡ setOf u) where
+  pub set-below : own < set → Sound b → i < countOf b → true ≡ before (rowKey (rowAt b i)) (keyIn set [] 0 [])
+  set-below h s l = ap isLess (stands-less b i set [] 0 [] u own eu eo h .is s l)
+
+  pub set-not-below : set ≤ own → Sound b → i < countOf b → false ≡ before (rowKey (rowAt b i)) (keyIn set [] 0 [])
+  set-not-below h s l = go (ltb set own) refl
+    where
+      go : (q : Bool) → ltb set own ≡ q → false ≡ before (rowKey (rowAt b i)) (keyIn set [] 0 [])
+      go true e = ap isLess (stands-greater b i set [] 0 [] u own eu eo (ltb-true set own e) .is s l)
+      go false e =
+          let f = fieldOf (rowAt b i) 0 in
+          let g = fieldOf (rowAt b i) 1 in
+          let r = thenBy (foldedOrder f []) (order (second set u g) (second set 0 [])) in
+          sym (least-key set u f g)
+          ∙ ap isLess (stands-same b i set [] 0 [] u own eu eo h (ltb-false set own e) f (λ _ _. refl) (foldedOrder f []) refl g (λ _ _. refl) r refl .is s l)
+
 -- THE SEARCH
 module _ (b : List ℕ) (k : Key) where
   pub halved-all : (n : ℕ) → n ≡ countOf b → Halved b k 0 n
@@ -116,11 +152,14 @@ module _ (b : List ℕ) (k : Key) where
     is = λ o. (omega arith, let l = first-le (λ (x : Row). not (before (rowKey x) k)) (rowsOf b) in omega (arith, l, rows-count b));
   }
 
-  module _ (lo hi m : ℕ) (h : Halved b k lo hi) (l : lo ≤ m) (r : m < hi) (o : Order) (st : Stands b m k o) (z : Bool) (ez : z ≡ isLess o) where
+  pub stands-test : (m : ℕ) (o : Order) → Stands b m k o → (z : Bool) → z ≡ isLess o → Sound b → m < countOf b → z ≡ before (rowKey (rowAt b m)) k
+  stands-test m o st z ez s l = ez ∙ ap isLess (st .is s l)
+
+  module _ (lo hi m : ℕ) (h : Halved b k lo hi) (l : lo ≤ m) (r : m < hi) (z : Bool) (ez : Sound b → m < countOf b → z ≡ before (rowKey (rowAt b m)) k) where
     test : Sound b → not (before (rowKey (getD (rowsOf b) m noRow)) k) ≡ not z
     test s =
         let c : m < countOf b = omega (arith, h .high) in
-        rw (row-getD b m c) (ap not (sym (ez ∙ ap isLess (st .is s c))))
+        rw (row-getD b m c) (ap not (sym (ez s c)))
 
     here : m < length (rowsOf b)
     here = omega (arith, h .high, rows-count b)

@@ -3,6 +3,7 @@ use crate::answers::Did;
 use crate::search::bound;
 use crate::search::has_key;
 use crate::search::set_of;
+use crate::search::set_start;
 use store::header::count;
 use store::header::free;
 use store::rows::insert;
@@ -47,8 +48,8 @@ fn row_count(pkg: &[u8], set: usize) -> usize
     requires { ⌜ Shape (now pkg) × (set ≤ 3) ⌝ }
     ensures { λ r. ⌜ RowsCounted (now (pkg .entry)) set r ⌝ }
 {
-    let from = bound(pkg, set, b"", 0, b"");
-    let to = bound(pkg, set + 1, b"", 0, b"");
+    let from = set_start(pkg, set);
+    let to = set_start(pkg, set + 1);
     if to < from {
         return 0;
     }

@@ -12,8 +12,9 @@ ghost use mathlib.Core.List.{[], _∷_};
 ghost use Rattle.chars.specs.Folding.{order};
 ghost use Rattle.model.specs.Sets.{isLess, isEqual};
 ghost use Rattle.store.specs.Layout.{slotCount, countOf};
+ghost use Rattle.store.specs.Packages.{Shape};
 ghost use Rattle.contract.specs.Rows.{setOf, second, keyIn};
-ghost use Rattle.contract.specs.Searches.{Stands, Has, Bounded};
+ghost use Rattle.contract.specs.Searches.{Stands, Has, Bounded, Counted};
 
 // The set that a row's tag tells: 0 items, 1 Defaults, 2 Overrides, 3 relationships.
 pub fn set_of(t: usize) -> usize
@@ -107,6 +108,32 @@ fn is_less(o: Order) -> bool
         Order::Equal => false,
         Order::Greater => false,
     }
+}
+
+// The first row of a set or of a later one, by halving: the tags tell.
+pub fn set_start(pkg: &[u8], set: usize) -> usize
+    requires { ⌜ countOf (now pkg) ≤ slotCount ⌝ }
+    ensures { λ r. ⌜ Bounded (now (pkg .entry)) (keyIn set [] 0 []) r ⌝ }
+{
+    let mut lo = 0;
+    let mut hi = count(pkg);
+    while lo < hi {
+        let mid = lo + (hi - lo) / 2;
+        if set_of(tag(pkg, mid)) < set {
+            lo = mid + 1;
+        } else {
+            hi = mid;
+        }
+    }
+    lo
+}
+
+// How many items there are: theirs are the rows before the next set.
+pub fn item_count(pkg: &[u8]) -> usize
+    requires { ⌜ Shape (now pkg) ⌝ }
+    ensures { λ r. ⌜ Counted (now (pkg .entry)) r ⌝ }
+{
+    set_start(pkg, 1)
 }
 
 // The first row whose key is not before the key, by halving.

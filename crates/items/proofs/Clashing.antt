@@ -28,9 +28,9 @@ use Rattle.store.specs.Rows.{Row, rowAt, tagAt, rowsOf, fieldOf}
 use Rattle.store.specs.Packages.{Sound}
 use Rattle.contract.specs.Rows.{tagOf, itemRow, otherRows, rowsFor, keyIn}
 use Rattle.contract.specs.Holds.{Holds}
-use Rattle.contract.specs.Searches.{Bounded}
+use Rattle.contract.specs.Searches.{Bounded, Counted}
 use Rattle.contract.proofs.ItemRows.{noItem, item-tag, item-prefix}
-use Rattle.items.specs.Clashes.{tagsDisagree, Counted, Grown, common, partedAt, Parted, extends, extendedAt, Extended, keyedAt, Keyed, opposedAt, Opposed, OpposedBefore, Clashing}
+use Rattle.items.specs.Clashes.{tagsDisagree, Grown, common, partedAt, Parted, extends, extendedAt, Extended, keyedAt, Keyed, opposedAt, Opposed, OpposedBefore, Clashing}
 use Rattle.items.proofs.Tags.{tags-disagree-is}
 use Rattle.items.proofs.Naming.{prefix-take}
 use Rattle.items.proofs.Locating.{bound-of, same-is}

@@ -17,9 +17,9 @@ use Rattle.store.specs.Layout.{countOf, usedOf, capOf}
 use Rattle.store.specs.Packages.{Shape, Room}
 use Rattle.contract.specs.Rows.{otherRows, keyIn}
 use Rattle.contract.specs.Holds.{Holds}
-use Rattle.contract.specs.Searches.{Bounded}
+use Rattle.contract.specs.Searches.{Bounded, Counted}
 use Rattle.contract.proofs.RowCharges.{used-charge, count-rows, length-others}
-use Rattle.items.specs.Clashes.{Counted, Clashing, Cleared}
+use Rattle.items.specs.Clashes.{Clashing, Cleared}
 
 -- a name that is accepted: then the clash, then the room
 refusal-is : (S : State) (s bytes : Bytes) → itemField s ≡ 0 → putItemRefusal S s bytes ≡ cond (eqb (clash s (S .items)) 0) (when (noRoom itemLimit (length (S .items)) (length s + length bytes) S) 15) (clash s (S .items))

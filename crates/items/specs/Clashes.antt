@@ -25,11 +25,6 @@ tagsDisagree t u =
     || eqb (u % 2) 1 && ltb (u / 2) (t / 2)
     || eqb (t % 2) 1 && ltb (t / 2) (u / 2)
 
--- r is the number of items
-pub record Counted (b : List ℕ) (r : ℕ) : Type 0 where
-  pub low : r ≤ countOf b
-  pub is : (S : State) → Holds b S → r ≡ length (S .items)
-
 -- z tells whether p grows out of the prefix of one of the first n rows, or that out of p
 pub record Grown (b : List ℕ) (n : ℕ) (p : Bytes) (z : Bool) : Type 0 where
   pub is : Sound b → z ≡ any (λ (r : Row). grows p (r .f0)) (take n (rowsOf b))

@@ -5,7 +5,7 @@ use chars::folding::is_same_letter;
 use chars::numbers::smaller;
 use chars::search::byte_at;
 use chars::starts::same_start;
-use contract::search::bound;
+use contract::search::item_count;
 use store::header::count;
 use store::header::free;
 use store::rows::field;
@@ -21,16 +21,8 @@ ghost use Rattle.model.specs.Package.{grows};
 ghost use Rattle.store.specs.Layout.{countOf};
 ghost use Rattle.store.specs.Packages.{Shape};
 ghost use Rattle.contract.specs.Rows.{tagOf, keyIn};
-ghost use Rattle.contract.specs.Searches.{Bounded};
-ghost use Rattle.items.specs.Clashes.{tagsDisagree, Counted, Grown, common, Parted, extends, Extended, Keyed, Opposed, OpposedBefore, Clashing, Cleared};
-
-// How many items there are.
-pub(crate) fn item_count(pkg: &[u8]) -> usize
-    requires { ⌜ Shape (now pkg) ⌝ }
-    ensures { λ r. ⌜ Counted (now (pkg .entry)) r ⌝ }
-{
-    bound(pkg, 1, b"", 0, b"")
-}
+ghost use Rattle.contract.specs.Searches.{Bounded, Counted};
+ghost use Rattle.items.specs.Clashes.{tagsDisagree, Grown, common, Parted, extends, Extended, Keyed, Opposed, OpposedBefore, Clashing, Cleared};
 
 // The suffixes of two items of one group disagree, by their tags.
 fn tags_disagree(t: usize, u: usize) -> bool

@@ -2,7 +2,7 @@
 -- Assumes nothing.
 use Prim.Native.Nat.{ℕ, suc, _+_, _-_, _/_, _≤_, _<_}
 use mathlib.Core.Path.{_≡_, refl, ap, sym, _∙_}
-use mathlib.Core.Bool.{Bool, true, false, not, true≢false}
+use mathlib.Core.Bool.{Bool, true, false, not, _||_, true≢false}
 use mathlib.Core.List.{List, [], _∷_}
 use native.Mathlib.Omega.{arith}
 use lib.Dec.{ltb}
@@ -13,22 +13,26 @@ use Rattle.chars.specs.Folding.{fold, equivalent, order}
 use Rattle.chars.specs.declared.folding.Order.{Order}
 use Rattle.chars.specs.declared.folding.Order.the-variants.{Less, Greater}
 use Rattle.chars.proofs.Orders.{order-refl, order-less}
-use Rattle.chars.proofs.Equivalence.{equivalent-fold, fold-equivalent}
+use Rattle.chars.proofs.Equivalence.{equivalent-fold, fold-equivalent, equivalent-sym}
+use Rattle.names.specs.declared.items.Suffix.{Suffix}
+use Rattle.names.specs.declared.items.Suffix.the-variants.{Whole, Piece}
 use Rattle.model.specs.Sets.{Bytes, Key, thenBy, keyOrder, isLess, before, Sorted}
 use Rattle.model.specs.Places.{bound, lead}
-use Rattle.model.specs.Fields.{prefixOf, suffixOf}
+use Rattle.model.specs.Fields.{prefixOf, suffixOf, whole}
 use Rattle.model.specs.Package.{Item, State, rank, keyOfItem}
+use Rattle.model.specs.Good.{Beside}
+use Rattle.model.proofs.Bools.{not-passing}
 use Rattle.model.proofs.Lists.{pairs-at}
-use Rattle.model.proofs.Walks.{first-le, first-passes, before-first, first-at}
+use Rattle.model.proofs.Walks.{first-le, first-passes, before-first, first-at, walk-stop, walk-end}
 use Rattle.model.proofs.KeyOrders.{begins-less}
 use Rattle.model.proofs.Places.{not-before-monotone}
 use Rattle.store.specs.Layout.{countOf}
-use Rattle.store.specs.Rows.{rowAt, fieldOf}
-use Rattle.store.specs.Packages.{Sound}
+use Rattle.store.specs.Rows.{rowAt, tagAt, fieldOf}
+use Rattle.store.specs.Packages.{Shape, Sound}
 use Rattle.contract.specs.Rows.{tagOf, keyIn}
 use Rattle.contract.specs.Holds.{Holds}
 use Rattle.contract.specs.Searches.{Bounded}
-use Rattle.contract.proofs.ItemRows.{noItem, items-le, item-prefix, item-bound}
+use Rattle.contract.proofs.ItemRows.{noItem, items-le, item-tag, item-prefix, item-bound}
 use Rattle.contract.proofs.RowKeys.{tag-small, tag-half}
 use Rattle.parts.specs.Runs.{inGroup, Ending, Ended, EndedBehind}
 use Rattle.parts.proofs.GroupRuns.{ending-more}
@@ -116,6 +120,45 @@ module _ (b : List ℕ) (e n : ℕ) (p : Bytes) (l : e ≤ n) (id : Bytes) (r : 
 
   pub behind-between : e < r → r < n → EndedBehind b e n p r
   behind-between q u = record { low = omega arith; high = omega arith; is = end-is }
+
+-- a whole item is alone in its group
+tag-whole : (x : Suffix) → tagOf x ≡ 0 → whole x ≡ true
+tag-whole Whole e = refl
+tag-whole (Piece k l) e = absurd (omega arith)
+
+module _ (b : List ℕ) (i n : ℕ) (l : i < n) where
+  alone : (u : ℕ) → (Shape b → i < countOf b → u ≡ tagAt b i) → u ≡ 0 → (S : State) → Holds b S → i + 1 < length (S .items) → inGroup (fieldOf (rowAt b i) 0) (getD (S .items) (i + 1) noItem) ≡ false
+  alone u eu z S h k =
+      let m : i < length (S .items) = omega arith in
+      let x = getD (S .items) i noItem in
+      let y = getD (S .items) (i + 1) noItem in
+      let w : whole (suffixOf (x .name)) ≡ true = tag-whole (suffixOf (x .name)) (sym (item-tag b S h i m) ∙ sym (eu (h .lies .sound .shape) (omega (arith, items-le b S h))) ∙ z) in
+      let a : equivalent (prefixOf (x .name)) (prefixOf (y .name)) ≡ false =
+      pairs-at Beside (S .items) i (i + 1) noItem (omega arith) k (h .good .beside) .alone (ap (λ (t : Bool). t || whole (suffixOf (y .name))) w) in
+      ap (equivalent (prefixOf (y .name))) (item-prefix b S h i m)
+      ∙ not-passing (equivalent (prefixOf (y .name)) (prefixOf (x .name))) (λ e. true≢false (sym (equivalent-sym (prefixOf (y .name)) (prefixOf (x .name)) e) ∙ a))
+
+  pub ended-alone : (u : ℕ) → (Shape b → i < countOf b → u ≡ tagAt b i) → u ≡ 0 → Ended b (i + 1) n (fieldOf (rowAt b i) 0) (i + 1)
+  ended-alone u eu z = record {
+    low = omega arith;
+    high = λ m y w. y;
+    is = λ S h k. sym (go S h k (ltb (i + 1) (length (S .items))) refl);
+  }
+    where
+      go : (S : State) → Holds b S → n ≡ length (S .items) → (t : Bool) → ltb (i + 1) (length (S .items)) ≡ t →
+          i + 1 + lead (inGroup (fieldOf (rowAt b i) 0)) (drop (i + 1) (S .items)) ≡ i + 1
+      go S h k true e =
+          let m = ltb-true (i + 1) (length (S .items)) e in
+          walk-stop (λ (x : Item). not (inGroup (fieldOf (rowAt b i) 0) x)) (S .items) (i + 1) noItem m (ap not (alone u eu z S h m))
+      go S h k false e = walk-end (λ (x : Item). not (inGroup (fieldOf (rowAt b i) 0) x)) (S .items) (i + 1) (omega (arith, ltb-false (i + 1) (length (S .items)) e))
+
+  -- f is the prefix in row i
+  pub ended-own : (f : Bytes) → (Sound b → i < countOf b → f ≡ fieldOf (rowAt b i) 0) → (r : ℕ) → Ended b (i + 1) n f r → Ended b (i + 1) n (fieldOf (rowAt b i) 0) r
+  ended-own f ef r x = record {
+    low = x .low;
+    high = x .high;
+    is = λ S h k. x .is S h k ∙ ap (λ (p : Bytes). i + 1 + lead (inGroup p) (drop (i + 1) (S .items))) (ef (h .lies .sound) (omega (arith, items-le b S h)));
+  }
 
 -- a walk that has come to row e, which is of the group, and the end behind it
 pub ended-behind :

@@ -25,9 +25,9 @@ use Rattle.store.specs.Rows.{rowAt, tagAt, fieldOf}
 use Rattle.store.specs.Packages.{Shape, Sound}
 use Rattle.contract.specs.Rows.{keyIn}
 use Rattle.contract.specs.Holds.{Holds}
-use Rattle.contract.specs.Searches.{Bounded}
-use Rattle.contract.proofs.ItemRows.{noItem, items-le, item-tag, item-prefix, item-bound, item-count}
-use Rattle.parts.specs.Runs.{run, inGroup, Counted, Ending, Ended, Judged, Grouped, PartOf}
+use Rattle.contract.specs.Searches.{Bounded, Counted}
+use Rattle.contract.proofs.ItemRows.{noItem, items-le, item-tag, item-prefix, item-bound}
+use Rattle.parts.specs.Runs.{run, inGroup, Ending, Ended, Judged, Grouped, PartOf}
 use Rattle.parts.proofs.LastItems.{mark, tagIn, Numbered, Agreeing, part-told}
 
 -- ITEMS OF ONE GROUP stand by number, and agree
@@ -47,10 +47,6 @@ module _ (p : Bytes) (g : List Item) (a : Each (λ (i : Item). inGroup p i ≡ t
       pairs-map (λ (i j : Item). ((inGroup p i ≡ true) × (inGroup p j ≡ true)) × Beside i j) (λ (i j : Item). disagrees (mark i) (mark j) ≡ false) g
       (λ i j e. e .1 .agreeing (fold-equivalent (prefixOf (i .name)) (prefixOf (j .name)) (same-prefix i j (e .0))))
       (pairs-both (λ (i j : Item). (inGroup p i ≡ true) × (inGroup p j ≡ true)) Beside g (pairs-each (λ (i : Item). inGroup p i ≡ true) g a) s)
-
--- HOW MANY ITEMS
-pub counted : (b : List ℕ) → Shape b → (id : Bytes) (n : ℕ) → Bounded b (keyIn 1 [] 0 id) n → Counted b n
-counted b s id n e = record { few = omega (arith, s .few, e .within); is = λ S h. item-count b S h id n e }
 
 -- WHERE A GROUP ENDS: a walk over its rows
 module _ (b : List ℕ) (i n : ℕ) (p : Bytes) where
@@ -120,7 +116,7 @@ module _ (b : List ℕ) (p : Bytes) where
     pub grouped : Grouped b p f t
     grouped = record {
       order = x .low;
-      few = x .high slotCount (omega (arith, e .within, s .few)) (c .few);
+      few = x .high slotCount (omega (arith, e .within, s .few)) (omega (arith, c .low, s .few));
       inside = λ S h.
           let a = first-le (λ (i : Item). not (inGroup p i)) (drop f (S .items)) in
           let d = length-drop f (S .items) in

@@ -21,11 +21,12 @@ use Rattle.store.specs.Layout.{usedOf, countOf}
 use Rattle.store.specs.Rows.{rowAt, fieldOf}
 use Rattle.store.specs.Packages.{Sound, isPackage}
 use Rattle.contract.specs.Holds.{Holds}
+use Rattle.contract.specs.Searches.{Counted}
 use Rattle.contract.specs.Ran.{Ran}
 use Rattle.contract.proofs.Rans.{looked, wrote}
 use Rattle.contract.proofs.RowCharges.{used-charge}
 use Rattle.contract.proofs.ItemRows.{items-le}
-use Rattle.parts.specs.Runs.{Counted, Grouped, Judged}
+use Rattle.parts.specs.Runs.{Grouped, Judged}
 use Rattle.parts.specs.Walks.{Walked}
 use Rattle.parts.specs.Copies.{taken, Copied}
 use Rattle.parts.proofs.GroupRuns.{part-of}

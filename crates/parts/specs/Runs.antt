@@ -23,11 +23,6 @@ run f t is = take (t - f) (drop f is)
 abbrev pub inGroup : Bytes → Item → Bool
 inGroup p i = equivalent (prefixOf (i .name)) p
 
--- n is the number of items
-pub record Counted (b : List ℕ) (n : ℕ) : Type 0 where
-  pub few : n ≤ slotCount
-  pub is : (S : State) → Holds b S → n ≡ length (S .items)
-
 -- a walk from row i towards row n has come to row e, over items of the group p only. (e is at most the greater of i and n.)
 pub record Ending (b : List ℕ) (i n : ℕ) (p : Bytes) (e : ℕ) : Type 0 where
   pub low : i ≤ e

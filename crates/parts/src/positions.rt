@@ -1,8 +1,8 @@
 // The parts in folded order: a walk over them, and the part at a position.
 use crate::copying::put_all;
-use crate::runs::count_items;
-use crate::runs::group_end;
 use crate::runs::makes_part;
+use crate::runs::own_end;
+use contract::search::item_count;
 use iri::writing::Written;
 use store::header::is_package;
 use store::rows::field;
@@ -38,7 +38,7 @@ pub(crate) fn walk(pkg: &[u8], n: usize, position: u64) -> Stop
     let mut row = 0;
     let mut passed = 0;
     while row < n {
-        let end = group_end(pkg, row + 1, n, field(pkg, row, 0));
+        let end = own_end(pkg, row, n);
         let part = makes_part(pkg, row, end);
         if part & (passed as u64 == position) {
             return Stop { row, passed };
@@ -56,7 +56,7 @@ pub fn part_at(pkg: &[u8], position: u64, out: &mut [u8]) -> Written
     if !is_package(pkg) {
         return Written::Refused(1);
     }
-    let n = count_items(pkg);
+    let n = item_count(pkg);
     let stop = walk(pkg, n, position);
     let row = stop.row;
     if n <= row {

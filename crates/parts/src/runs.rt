@@ -1,25 +1,19 @@
 // The rows of a group, and whether it is a part.
 use chars::folding::is_equivalent;
 use contract::search::bound;
+use contract::search::item_count;
 use store::rows::field;
 use store::rows::tag;
-ghost use Prim.Native.Nat.{_≤_};
+ghost use Prim.Native.Nat.{_+_, _≤_, _<_};
 ghost use Rattle.store.specs.Layout.{slotCount, countOf};
+ghost use Rattle.store.specs.Rows.{rowAt, fieldOf};
 ghost use Rattle.store.specs.Packages.{Shape};
-ghost use Rattle.parts.specs.Runs.{Counted, Ended, EndedBehind, Judged, Grouped, PartOf};
+ghost use Rattle.parts.specs.Runs.{Ended, EndedBehind, Judged, Grouped, PartOf};
 
 // Rows that stand side by side: from the first up to, not including, the row `to`.
 pub struct Run {
     pub from: usize,
     pub to: usize,
-}
-
-// How many items there are: their rows are those before the least key of the next set.
-pub fn count_items(pkg: &[u8]) -> usize
-    requires { ⌜ Shape (now pkg) ⌝ }
-    ensures { λ r. ⌜ Counted (now (pkg .entry)) r ⌝ }
-{
-    bound(pkg, 1, b"", 0, b"")
 }
 
 // Where they end, if the row before row e is one of them, by halving: no item has so great a number.
@@ -38,7 +32,7 @@ fn end_behind(pkg: &[u8], e: usize, n: usize, p: &[u8]) -> usize
 }
 
 // Where the items of the group p that stand side by side from row i on end, before row n. Most groups have one item, or few.
-pub fn group_end(pkg: &[u8], i: usize, n: usize, p: &[u8]) -> usize
+fn group_end(pkg: &[u8], i: usize, n: usize, p: &[u8]) -> usize
     requires { ⌜ countOf (now pkg) ≤ slotCount ⌝ }
     ensures { λ r. ⌜ Ended (now (pkg .entry)) i n (now (p .entry)) r ⌝ }
 {
@@ -53,6 +47,17 @@ pub fn group_end(pkg: &[u8], i: usize, n: usize, p: &[u8]) -> usize
         }
     }
     e
+}
+
+// Where the group of row i ends, before row n. A whole item is alone in its group.
+pub fn own_end(pkg: &[u8], i: usize, n: usize) -> usize
+    requires { ⌜ (countOf (now pkg) ≤ slotCount) × (i < n) ⌝ }
+    ensures { λ r. ⌜ Ended (now (pkg .entry)) (i + 1) n (fieldOf (rowAt (now (pkg .entry)) i) 0) r ⌝ }
+{
+    if tag(pkg, i) == 0 {
+        return i + 1;
+    }
+    group_end(pkg, i + 1, n, field(pkg, i, 0))
 }
 
 // Whether the rows of a group are a part. They stand by number, and a last mark stands above all other numbers: the last row tells.
@@ -72,7 +77,7 @@ pub(crate) fn find_group(pkg: &[u8], p: &[u8]) -> Run
     requires { ⌜ Shape (now pkg) ⌝ }
     ensures { λ r. ⌜ Grouped (now (pkg .entry)) (now (p .entry)) (r .from) (r .to) ⌝ }
 {
-    let n = count_items(pkg);
+    let n = item_count(pkg);
     let from = bound(pkg, 0, p, 0, b"");
     let to = group_end(pkg, from, n, p);
     Run { from, to }

@@ -1,7 +1,7 @@
 // The totals.
 use crate::positions::walk;
-use crate::runs::count_items;
 use contract::answers::Totalled;
+use contract::search::item_count;
 use store::header::is_package;
 use store::header::used;
 ghost use Rattle.model.specs.Calls.{Call, Look};
@@ -15,7 +15,7 @@ pub fn totals(pkg: &[u8]) -> Totalled
     if !is_package(pkg) {
         return Totalled::Refused(1);
     }
-    let n = count_items(pkg);
+    let n = item_count(pkg);
     let all = walk(pkg, n, n as u64);
     Totalled::Of {
         items: n,

@@ -3,7 +3,7 @@ use native.Mathlib.Omega.{arith}
 use borrow.Author.Needs.{needs}
 use Rattle.contract.specs.Rows.{keyIn}
 use Rattle.contract.specs.Searches.{Halved}
-use Rattle.contract.proofs.RowSearch.{halved-all, halved-right, halved-left, halved-end}
+use Rattle.contract.proofs.RowSearch.{stands-test, halved-all, halved-right, halved-left, halved-end}
 use Rattle.contract.proofs.search.bound.Statement.{statement}
 use Rattle.contract.proofs.search.bound.Tie as tie
 
@@ -38,13 +38,13 @@ loop-less : tie.Need-loop-less Inv-loop μ-loop
 loop-less c = omega arith
 
 loop-again : tie.Need-loop-again Inv-loop μ-loop
-loop-again c = halved-right _ _ _ _ _ (c .before .before .before .before .loop .inv) (omega arith) (omega arith) _ (c .before .before .stands .ensures) _ (c .before .is-less .ensures) (c .if1 .taken)
+loop-again c = halved-right _ _ _ _ _ (c .before .before .before .before .loop .inv) (omega arith) (omega arith) _ (stands-test _ _ _ _ (c .before .before .stands .ensures) _ (c .before .is-less .ensures)) (c .if1 .taken)
 
 loop-less-2 : tie.Need-loop-less-2 Inv-loop μ-loop
 loop-less-2 c = omega arith
 
 loop-again-2 : tie.Need-loop-again-2 Inv-loop μ-loop
-loop-again-2 c = halved-left _ _ _ _ _ (c .before .before .before .before .loop .inv) (omega arith) (omega arith) _ (c .before .before .stands .ensures) _ (c .before .is-less .ensures) (c .if1 .left)
+loop-again-2 c = halved-left _ _ _ _ _ (c .before .before .before .before .loop .inv) (omega arith) (omega arith) _ (stands-test _ _ _ _ (c .before .before .stands .ensures) _ (c .before .is-less .ensures)) (c .if1 .left)
 
 returns : tie.Need-returns Inv-loop μ-loop
 returns c = halved-end _ _ _ _ (c .before .loop .inv) (c .loop-test .left)

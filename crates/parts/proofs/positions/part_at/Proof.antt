@@ -1,3 +1,4 @@
+use native.Mathlib.Omega.{arith}
 use Rattle.model.specs.Calls.{PartAt}
 use Rattle.contract.proofs.Rans.{prints-foreign}
 use Rattle.parts.proofs.TextAnswers.{no-package, opened, opened-shape}
@@ -14,14 +15,14 @@ returns c =
     let a = c .before .before .before .before .args in
     prints-foreign _ (no-package _ _ (c .before .is-package .ensures) (c .if1 .taken)) (PartAt (a .position)) (a .out .now)
 
-count-items-requires : tie.Need-count-items-requires
-count-items-requires c κs = opened-shape _ _ (c .before .is-package .ensures) (c .if1 .left)
+item-count-requires : tie.Need-item-count-requires
+item-count-requires c κs = opened-shape _ _ (c .before .is-package .ensures) (c .if1 .left)
 
 walk-requires : tie.Need-walk-requires
-walk-requires c κs = (c .count-items .ensures .few, opened-shape _ _ (c .before .before .is-package .ensures) (c .before .if1 .left) .few)
+walk-requires c κs = let few = opened-shape _ _ (c .before .before .is-package .ensures) (c .before .if1 .left) .few in (omega (arith, c .item-count .ensures .low), few)
 
 returns-2 : tie.Need-returns-2
-returns-2 c = position-missing _ (opened _ _ (c .before .before .before .before .is-package .ensures) (c .before .before .before .if1 .left)) _ (c .before .before .count-items .ensures) _ _ _ (c .before .walk .ensures) (c .before .before .before .before .before .before .before .args .out .now) (c .if2 .taken)
+returns-2 c = position-missing _ (opened _ _ (c .before .before .before .before .is-package .ensures) (c .before .before .before .if1 .left)) _ (c .before .before .item-count .ensures) _ _ _ (c .before .walk .ensures) (c .before .before .before .before .before .before .before .args .out .now) (c .if2 .taken)
 
 field-requires : tie.Need-field-requires
 field-requires c κs = search needs
@@ -33,7 +34,7 @@ same-length : tie.Need-same-length
 same-length c = search needs
 
 returns-3 : tie.Need-returns-3
-returns-3 c = position-written _ (opened _ _ (c .before .before .before .before .before .before .before .before .before .is-package .ensures) (c .before .before .before .before .before .before .before .before .if1 .left)) _ (c .before .before .before .before .before .before .before .count-items .ensures) _ _ _ (c .before .before .before .before .before .before .walk .ensures) (c .before .before .before .before .before .before .before .before .before .before .before .before .args .out .now) (c .before .before .before .before .before .if2 .left) _ (c .before .before .before .before .field .ensures .2) _ (c .before .before .put-all .ensures)
+returns-3 c = position-written _ (opened _ _ (c .before .before .before .before .before .before .before .before .before .is-package .ensures) (c .before .before .before .before .before .before .before .before .if1 .left)) _ (c .before .before .before .before .before .before .before .item-count .ensures) _ _ _ (c .before .before .before .before .before .before .walk .ensures) (c .before .before .before .before .before .before .before .before .before .before .before .before .args .out .now) (c .before .before .before .before .before .if2 .left) _ (c .before .before .before .before .field .ensures .2) _ (c .before .before .put-all .ensures)
 
 pub part-at-spec : {M : Type 1} → statement M
 part-at-spec =
@@ -41,7 +42,7 @@ part-at-spec =
     (tie.spec
     is-package-requires
     returns
-    count-items-requires
+    item-count-requires
     walk-requires
     returns-2
     field-requires

@@ -1,4 +1,5 @@
 use Prim.Native.Nat.{_-_}
+use mathlib.Core.Path.{refl}
 use native.Mathlib.Omega.{arith}
 use borrow.Author.Needs.{needs}
 use Rattle.parts.specs.Walks.{Walking}
@@ -15,32 +16,26 @@ abbrev μ-loop : tie.MeasureT-loop
 loop-holds : tie.Need-loop-holds Inv-loop μ-loop
 loop-holds c = walking-begin _ _ _
 
-add-group-end : tie.Need-add-group-end Inv-loop μ-loop
-add-group-end c = omega (arith, c .before .before .before .pre .0)
-
-field-requires : tie.Need-field-requires Inv-loop μ-loop
-field-requires c κs = search needs
-
-group-end-requires : tie.Need-group-end-requires Inv-loop μ-loop
-group-end-requires c κs = search needs
+own-end-requires : tie.Need-own-end-requires Inv-loop μ-loop
+own-end-requires c κs = (c .before .before .before .pre .1, c .loop-test .taken)
 
 makes-part-requires : tie.Need-makes-part-requires Inv-loop μ-loop
-makes-part-requires c κs = c .group-end .ensures .high _ (omega (arith, c .before .before .before .before .before .pre .0)) (c .before .before .before .before .before .pre .0)
+makes-part-requires c κs = c .own-end .ensures .high _ (omega (arith, c .before .before .before .before .pre .0)) (c .before .before .before .before .pre .0)
 
 returns : tie.Need-returns Inv-loop μ-loop
-returns c = walked-stop _ _ _ _ _ (c .before .before .before .before .before .loop .inv) (c .before .before .before .before .loop-test .taken) _ (c .before .before .before .field .ensures .2) _ (c .before .before .group-end .ensures) _ (c .before .makes-part .ensures) (c .if1 .taken)
+returns c = walked-stop _ _ _ _ _ (c .before .before .before .before .loop .inv) (c .before .before .before .loop-test .taken) _ (λ _ _. refl) _ (c .before .before .own-end .ensures) _ (c .before .makes-part .ensures) (c .if1 .taken)
 
 one-if-requires : tie.Need-one-if-requires Inv-loop μ-loop
 one-if-requires c κs = search needs
 
 add-passed : tie.Need-add-passed Inv-loop μ-loop
-add-passed c = omega (arith, c .before .before .before .before .before .before .before .before .pre .0, c .before .before .before .before .before .before .loop .inv .few, c .one-if .ensures .1)
+add-passed c = omega (arith, c .before .before .before .before .before .before .before .pre .0, c .before .before .before .before .before .loop .inv .few, c .one-if .ensures .1)
 
 loop-less : tie.Need-loop-less Inv-loop μ-loop
-loop-less c = omega (arith, c .before .before .before .group-end .ensures .low)
+loop-less c = omega (arith, c .before .before .before .own-end .ensures .low)
 
 loop-again : tie.Need-loop-again Inv-loop μ-loop
-loop-again c = walking-more _ _ _ _ _ (c .before .before .before .before .before .before .loop .inv) (c .before .before .before .before .before .loop-test .taken) _ (c .before .before .before .before .field .ensures .2) _ (c .before .before .before .group-end .ensures) _ (c .before .before .makes-part .ensures) (c .before .if1 .left) _ (c .one-if .ensures .0)
+loop-again c = walking-more _ _ _ _ _ (c .before .before .before .before .before .loop .inv) (c .before .before .before .before .loop-test .taken) _ (λ _ _. refl) _ (c .before .before .before .own-end .ensures) _ (c .before .before .makes-part .ensures) (c .before .if1 .left) _ (c .one-if .ensures .0)
 
 returns-2 : tie.Need-returns-2 Inv-loop μ-loop
 returns-2 c = walked-end _ _ _ _ _ (c .before .loop .inv) (c .loop-test .left)
@@ -52,9 +47,7 @@ walk-spec =
     Inv-loop
     μ-loop
     loop-holds
-    add-group-end
-    field-requires
-    group-end-requires
+    own-end-requires
     makes-part-requires
     returns
     one-if-requires

@@ -3,8 +3,8 @@ use borrow.Author.Needs.{needs}
 use Rattle.parts.proofs.runs.find_group.Statement.{statement}
 use Rattle.parts.proofs.runs.find_group.Tie as tie
 
-count-items-requires : tie.Need-count-items-requires
-count-items-requires c κs = search needs
+item-count-requires : tie.Need-item-count-requires
+item-count-requires c κs = search needs
 
 slice-aggregate-bound : tie.Need-slice-aggregate-bound
 slice-aggregate-bound c = search needs
@@ -16,9 +16,9 @@ group-end-requires : tie.Need-group-end-requires
 group-end-requires c κs = search needs
 
 returns : tie.Need-returns
-returns c = grouped _ _ (c .before .before .before .before .before .before .pre) _ (c .before .before .before .count-items .ensures) _ _ (c .before .bound .ensures) _ (c .group-end .ensures)
+returns c = grouped _ _ (c .before .before .before .before .before .before .pre) _ (c .before .before .before .item-count .ensures) _ _ (c .before .bound .ensures) _ (c .group-end .ensures)
 
 pub find-group-spec : {M : Type 1} → statement M
 find-group-spec =
     tie.close
-    (tie.spec count-items-requires slice-aggregate-bound bound-requires group-end-requires returns)
+    (tie.spec item-count-requires slice-aggregate-bound bound-requires group-end-requires returns)

@@ -1,3 +1,4 @@
+use native.Mathlib.Omega.{arith}
 use mathlib.Core.Path.{refl}
 use Rattle.model.specs.Calls.{Totals}
 use Rattle.contract.proofs.Rans.{looks-foreign}
@@ -13,17 +14,17 @@ is-package-requires c κs = search needs
 returns : tie.Need-returns
 returns c = looks-foreign _ (no-package _ _ (c .before .is-package .ensures) (c .if1 .taken)) Totals refl
 
-count-items-requires : tie.Need-count-items-requires
-count-items-requires c κs = opened-shape _ _ (c .before .is-package .ensures) (c .if1 .left)
+item-count-requires : tie.Need-item-count-requires
+item-count-requires c κs = opened-shape _ _ (c .before .is-package .ensures) (c .if1 .left)
 
 walk-requires : tie.Need-walk-requires
-walk-requires c κs = (c .count-items .ensures .few, opened-shape _ _ (c .before .before .is-package .ensures) (c .before .if1 .left) .few)
+walk-requires c κs = let few = opened-shape _ _ (c .before .before .is-package .ensures) (c .before .if1 .left) .few in (omega (arith, c .item-count .ensures .low), few)
 
 used-requires : tie.Need-used-requires
 used-requires c κs = search needs
 
 returns-2 : tie.Need-returns-2
-returns-2 c = totals-done _ (opened _ _ (c .before .before .before .before .is-package .ensures) (c .before .before .before .if1 .left)) _ (c .before .before .count-items .ensures) _ _ (c .before .walk .ensures) _ (c .used .ensures .0)
+returns-2 c = totals-done _ (opened _ _ (c .before .before .before .before .is-package .ensures) (c .before .before .before .if1 .left)) _ (c .before .before .item-count .ensures) _ _ (c .before .walk .ensures) _ (c .used .ensures .0)
 
 pub totals-spec : {M : Type 1} → statement M
 totals-spec =
@@ -31,7 +32,7 @@ totals-spec =
     (tie.spec
     is-package-requires
     returns
-    count-items-requires
+    item-count-requires
     walk-requires
     used-requires
     returns-2)
