@@ -12,9 +12,11 @@ use Rattle.chars.specs.Folding.{fold, equivalent, order, foldedOrder}
 use Rattle.chars.specs.declared.folding.Order.{Order}
 use Rattle.chars.specs.declared.folding.Order.the-variants.{Less, Equal, Greater}
 use Rattle.chars.proofs.Equivalence.{folded-equal, equivalent-equal}
-use Rattle.model.specs.Sets.{Bytes, Key, thenBy, keyOrder, isLess, isEqual, before}
+use Rattle.model.specs.Sets.{Bytes, Key, thenBy, keyOrder, isLess, isEqual, before, sameKey}
 use Rattle.model.specs.Places.{firstWhere, bound}
-use Rattle.model.proofs.Walks.{first-le, first-le-passing, failing-lt-first}
+use Rattle.model.proofs.Lists.{pairs-at}
+use Rattle.model.proofs.KeyOrders.{before-same}
+use Rattle.model.proofs.Walks.{first-le, first-le-passing, failing-lt-first, first-at}
 use Rattle.model.proofs.Places.{not-before-monotone}
 use Rattle.store.specs.Layout.{countOf}
 use Rattle.store.specs.Rows.{Row, noRow, rowAt, tagAt, rowsOf, fieldOf}
@@ -152,8 +154,8 @@ module _ (b : List ℕ) (k : Key) where
     is = λ o. (omega arith, let l = first-le (λ (x : Row). not (before (rowKey x) k)) (rowsOf b) in omega (arith, l, rows-count b));
   }
 
-  pub stands-test : (m : ℕ) (o : Order) → Stands b m k o → (z : Bool) → z ≡ isLess o → Sound b → m < countOf b → z ≡ before (rowKey (rowAt b m)) k
-  stands-test m o st z ez s l = ez ∙ ap isLess (st .is s l)
+  pub stands-test : (m : ℕ) (o : Order) → Stands b m k o → (r : Order) → o ≡ r → Sound b → m < countOf b → isLess r ≡ before (rowKey (rowAt b m)) k
+  stands-test m o st r e s l = ap isLess (sym e ∙ st .is s l)
 
   module _ (lo hi m : ℕ) (h : Halved b k lo hi) (l : lo ≤ m) (r : m < hi) (z : Bool) (ez : Sound b → m < countOf b → z ≡ before (rowKey (rowAt b m)) k) where
     test : Sound b → not (before (rowKey (getD (rowsOf b) m noRow)) k) ≡ not z
@@ -179,6 +181,24 @@ module _ (b : List ℕ) (k : Key) where
       high = omega (arith, h .high);
       is = λ q. (h .is q .0, first-le-passing (λ (x : Row). not (before (rowKey x) k)) (rowsOf b) m noRow here (test (q .sound) ∙ ap not e));
     }
+
+  -- row m has the key
+  pub halved-hit : (lo hi m : ℕ) → Halved b k lo hi → m < hi → (o : Order) → Stands b m k o → o ≡ Equal → Bounded b k m
+  halved-hit lo hi m h r o st e = record { within = omega (arith, h .high); is = λ q. sym (at q) }
+    where
+      c : m < countOf b
+      c = omega (arith, h .high)
+
+      same-key : Sound b → sameKey (rowKey (getD (rowsOf b) m noRow)) k ≡ true
+      same-key s = ap (λ (x : Row). sameKey (rowKey x) k) (row-getD b m c) ∙ ap isEqual (sym (st .is s c) ∙ e)
+
+      at : Ordered b → bound rowKey k (rowsOf b) ≡ m
+      at q =
+          first-at (λ (x : Row). not (before (rowKey x) k)) (rowsOf b) m noRow (not-before-monotone rowKey k (rowsOf b) (q .sorted)) (omega (arith, rows-count b))
+          (λ j z.
+          ap not (before-same (rowKey (getD (rowsOf b) j noRow)) (rowKey (getD (rowsOf b) m noRow)) k
+          (pairs-at (λ (x y : Row). before (rowKey x) (rowKey y) ≡ true) (rowsOf b) j m noRow (omega arith) (omega (arith, rows-count b)) (q .sorted)) (same-key (q .sound))))
+          (λ l. ap not (ap (λ (x : Row). before (rowKey x) k) (row-getD b m c) ∙ ap isLess (sym (st .is (q .sound) c) ∙ e)))
 
   pub halved-end : (lo hi : ℕ) → Halved b k lo hi → hi ≤ lo → Bounded b k lo
   halved-end lo hi h e = record { within = omega (arith, h .low, h .high); is = λ q. omega (arith, h .is q .0, h .is q .1, h .low) }

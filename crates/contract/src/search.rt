@@ -10,7 +10,7 @@ ghost use mathlib.Core.Path.{_≡_};
 ghost use Prim.Native.Nat.{_/_, _≤_};
 ghost use mathlib.Core.List.{[], _∷_};
 ghost use Rattle.chars.specs.Folding.{order};
-ghost use Rattle.model.specs.Sets.{isLess, isEqual};
+ghost use Rattle.model.specs.Sets.{isEqual};
 ghost use Rattle.store.specs.Layout.{slotCount, countOf};
 ghost use Rattle.store.specs.Packages.{Shape};
 ghost use Rattle.contract.specs.Rows.{setOf, second, keyIn};
@@ -100,16 +100,6 @@ pub fn has_key(pkg: &[u8], i: usize, set: usize, p: &[u8], t: usize, id: &[u8]) 
     is_equal(compare_second(set, u, field(pkg, i, 1), t, id))
 }
 
-fn is_less(o: Order) -> bool
-    ensures { λ r. ⌜ r ≡ isLess o ⌝ }
-{
-    match o {
-        Order::Less => true,
-        Order::Equal => false,
-        Order::Greater => false,
-    }
-}
-
 // The first row of a set or of a later one, by halving: the tags tell.
 pub fn set_start(pkg: &[u8], set: usize) -> usize
     requires { ⌜ countOf (now pkg) ≤ slotCount ⌝ }
@@ -136,7 +126,7 @@ pub fn item_count(pkg: &[u8]) -> usize
     set_start(pkg, 1)
 }
 
-// The first row whose key is not before the key, by halving.
+// The first row whose key is not before the key, by halving: no two rows have one key, so a row that has it ends the search.
 pub fn bound(pkg: &[u8], set: usize, p: &[u8], t: usize, id: &[u8]) -> usize
     requires { ⌜ countOf (now pkg) ≤ slotCount ⌝ }
     ensures { λ r. ⌜ Bounded (now (pkg .entry)) (keyIn set (now (p .entry)) t (now (id .entry))) r ⌝ }
@@ -145,10 +135,16 @@ pub fn bound(pkg: &[u8], set: usize, p: &[u8], t: usize, id: &[u8]) -> usize
     let mut hi = count(pkg);
     while lo < hi {
         let mid = lo + (hi - lo) / 2;
-        if is_less(stands(pkg, mid, set, p, t, id)) {
-            lo = mid + 1;
-        } else {
-            hi = mid;
+        match stands(pkg, mid, set, p, t, id) {
+            Order::Less => {
+                lo = mid + 1;
+            }
+            Order::Equal => {
+                return mid;
+            }
+            Order::Greater => {
+                hi = mid;
+            }
         }
     }
     lo
