@@ -5,4 +5,4 @@ pub mod ListedParts
 pub mod LineRuns
 pub mod ShownSizes
 pub mod FedLines
-pub mod EverySession
+pub mod EveryInput

@@ -10,10 +10,11 @@ use Rattle.iri.proofs.Sending.{sent-none, sent-more, sent-as}
 use Rattle.model.specs.Sets.{Bytes, joined}
 use Rattle.model.specs.Package.{Item, parts}
 use Rattle.model.specs.Sheet.{partLine, listing}
-use Rattle.store.specs.Layout.{countOf}
+use Rattle.store.specs.Layout.{slotCount, countOf}
 use Rattle.store.specs.Rows.{rowAt, fieldOf}
 use Rattle.store.specs.Packages.{Sound}
-use Rattle.parts.specs.Runs.{run, Counted, Ended}
+use Rattle.contract.specs.Searches.{Counted}
+use Rattle.parts.specs.Runs.{run, Ended}
 use Rattle.parts.proofs.PartWalks.{parts-none, next-parts}
 use Rattle.commands.specs.Listings.{GroupSent, Listing, Listed}
 
@@ -50,10 +51,10 @@ module _ (b : Bytes) (n : ℕ) (out : Bytes) where
           };
     }
 
-    pub listed-end : n ≤ i → Counted b n → Listed b out at out'
+    pub listed-end : n ≤ i → n ≤ slotCount → Counted b n → Listed b out at out'
     unfolding joined
-    listed-end l c = record {
-      few = omega (arith, w .few, w .within, c .few);
+    listed-end l m c = record {
+      few = omega (arith, w .few, w .within);
       is = λ S h.
           let v = w .is S h (c .is S h) in
           let z : parts (drop i (S .items)) ≡ [] = ap parts (drop-of-length-le (S .items) {i = i} (omega (arith, c .is S h))) ∙ parts-none in

@@ -1,4 +1,4 @@
 pub mod Listings
 pub mod Running
 pub mod Feeding
-pub mod Sessions
+pub mod Inputs

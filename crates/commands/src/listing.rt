@@ -1,10 +1,10 @@
 // The listing of the parts: one walk over the items, group by group.
 use chars::numbers::smaller;
+use contract::search::item_count;
 use lines::printing::put_row;
 use parts::reading::content_length;
-use parts::runs::count_items;
-use parts::runs::group_end;
 use parts::runs::makes_part;
+use parts::runs::own_end;
 use store::header::count;
 use store::rows::field;
 use types::media::type_row;
@@ -66,11 +66,11 @@ pub fn put_listing(pkg: &[u8], out: &mut [u8]) -> usize
     requires { ⌜ Shape (now pkg) ⌝ }
     ensures { λ r. ⌜ Listed (now (pkg .entry)) (now (out .entry)) r (now (out .exit)) ⌝ }
 {
-    let n = count_items(pkg);
+    let n = item_count(pkg);
     let mut row = 0;
     let mut at = 0;
     while row < n {
-        let end = group_end(pkg, row + 1, n, field(pkg, row, 0));
+        let end = own_end(pkg, row, n);
         at = put_group(pkg, row, end, out, at);
         row = end;
     }

@@ -8,7 +8,7 @@ ghost use Prim.Native.Nat.{_+_, _≤_, _<_};
 ghost use lib.ListN.{length};
 ghost use Rattle.model.specs.Calls.{overhead};
 ghost use Rattle.commands.specs.Feeding.{mostShown};
-ghost use Rattle.commands.specs.Sessions.{sheetCapacity, Ready};
+ghost use Rattle.commands.specs.Inputs.{sheetCapacity, Ready};
 
 const CAPACITY: u64 = 30000;
 

@@ -1,5 +1,5 @@
 use native.Mathlib.Omega.{arith}
-use Rattle.commands.proofs.EverySession.{ready-begin, ready-ends}
+use Rattle.commands.proofs.EveryInput.{ready-begin, ready-ends}
 use borrow.Author.Needs.{needs}
 use Rattle.sheet.proofs.run.Statement.{statement}
 use Rattle.sheet.proofs.run.Tie as tie

@@ -1,7 +1,7 @@
 use mathlib.Core.Path.{_≡_, refl, _∙_}
 use native.Mathlib.Omega.{arith}
 use lib.ListN.{length}
-use Rattle.commands.specs.Sessions.{Ready}
+use Rattle.commands.specs.Inputs.{Ready}
 use Rattle.sheet.proofs.run_all.Statement.{statement}
 use Rattle.sheet.proofs.run_all.Tie as tie
 

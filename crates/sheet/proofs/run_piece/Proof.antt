@@ -3,8 +3,8 @@ use mathlib.Core.Path.{_≡_, refl, _∙_}
 use native.Mathlib.Omega.{arith}
 use lib.ListN.{length}
 use borrow.Author.Needs.{needs}
-use Rattle.commands.specs.Sessions.{Ready}
-use Rattle.commands.proofs.EverySession.{ready-fits, ready-more}
+use Rattle.commands.specs.Inputs.{Ready}
+use Rattle.commands.proofs.EveryInput.{ready-fits, ready-more}
 use borrow.Author.Needs.{needs}
 use Rattle.sheet.proofs.run_piece.Statement.{statement}
 use Rattle.sheet.proofs.run_piece.Tie as tie

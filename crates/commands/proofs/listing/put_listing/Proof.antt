@@ -15,35 +15,39 @@ Inv-loop pkg out₀ n row₀ at₀ out row at = (length out ≡ length out₀) �
 abbrev μ-loop : tie.MeasureT-loop
 μ-loop pkg out₀ n row₀ at₀ out row at = n - row
 
-count-items-requires : tie.Need-count-items-requires Inv-loop μ-loop
-count-items-requires c κs = c .before .before .pre
+item-count-requires : tie.Need-item-count-requires Inv-loop μ-loop
+item-count-requires c κs = c .before .before .pre
 
 loop-holds : tie.Need-loop-holds Inv-loop μ-loop
 loop-holds c = (refl, listing-begin _ _ _)
 
-add-group-end : tie.Need-add-group-end Inv-loop μ-loop
-add-group-end c = omega (arith, c .before .before .count-items .ensures .few)
-
-field-requires : tie.Need-field-requires Inv-loop μ-loop
-field-requires c κs = search needs
-
-group-end-requires : tie.Need-group-end-requires Inv-loop μ-loop
-group-end-requires c κs = search needs
+own-end-requires : tie.Need-own-end-requires Inv-loop μ-loop
+own-end-requires c κs = (c .before .before .before .before .before .pre .few, c .loop-test .taken)
 
 put-group-requires : tie.Need-put-group-requires Inv-loop μ-loop
-put-group-requires c κs = (c .before .before .before .before .before .before .before .before .pre, (omega (arith, c .before .group-end .ensures .low), c .before .group-end .ensures .high slotCount (omega (arith, c .before .before .before .loop-test .taken, c .before .before .before .before .before .count-items .ensures .few)) (c .before .before .before .before .before .count-items .ensures .few), omega (arith, c .before .before .before .before .loop .inv .1 .few, c .before .before .before .before .loop .inv .1 .within, c .before .before .before .before .before .count-items .ensures .few)))
+put-group-requires c κs =
+    let shape = c .before .before .before .before .before .before .before .pre in
+    let few = c .before .before .before .before .item-count .ensures .low in
+    let inv = c .before .before .before .loop .inv .1 in
+    let l = c .before .before .loop-test .taken in
+    let end = c .before .own-end .ensures in
+    (shape, (omega (arith, end .low), end .high slotCount (omega (arith, l, few, shape .few)) (omega (arith, few, shape .few)), omega (arith, inv .few, inv .within, few, shape .few)))
 
 loop-less : tie.Need-loop-less Inv-loop μ-loop
-loop-less c = omega (arith, c .before .before .before .before .group-end .ensures .low, c .before .before .before .before .before .before .loop-test .taken)
+loop-less c = omega (arith, c .before .before .before .before .own-end .ensures .low, c .before .before .before .before .before .loop-test .taken)
 
 loop-again : tie.Need-loop-again Inv-loop μ-loop
-loop-again c = (omega (arith, c .before .before .before .before .before .before .before .loop .inv .0), listing-more _ _ _ _ _ _ (c .before .before .before .before .before .before .before .loop .inv .1) (c .before .before .before .before .before .before .before .loop .inv .0) (c .before .before .before .before .before .before .loop-test .taken) _ (c .before .before .before .before .before .field .ensures .2) _ (c .before .before .before .before .group-end .ensures) _ _ (c .before .before .put-group .ensures))
+loop-again c =
+    let inv = c .before .before .before .before .before .before .loop .inv in
+    (omega (arith, inv .0), listing-more _ _ _ _ _ _ (inv .1) (inv .0) (c .before .before .before .before .before .loop-test .taken) _ (λ _ _. refl) _ (c .before .before .before .before .own-end .ensures) _ _ (c .before .before .put-group .ensures))
 
 same-length : tie.Need-same-length Inv-loop μ-loop
 same-length c = search needs
 
 returns : tie.Need-returns Inv-loop μ-loop
-returns c = listed-end _ _ _ _ _ _ (c .before .loop .inv .1) (c .loop-test .left) (c .before .before .count-items .ensures)
+returns c =
+    let count = c .before .before .item-count .ensures in
+    listed-end _ _ _ _ _ _ (c .before .loop .inv .1) (c .loop-test .left) (omega (arith, count .low, c .before .before .before .before .before .pre .few)) count
 
 pub put-listing-spec : {M : Type 1} → statement M
 put-listing-spec =
@@ -51,11 +55,9 @@ put-listing-spec =
     (tie.spec
     Inv-loop
     μ-loop
-    count-items-requires
+    item-count-requires
     loop-holds
-    add-group-end
-    field-requires
-    group-end-requires
+    own-end-requires
     put-group-requires
     loop-less
     loop-again

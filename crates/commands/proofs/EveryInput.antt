@@ -15,7 +15,7 @@ use Rattle.contract.specs.Holds.{Holds}
 use Rattle.contract.specs.Ran.{Ran}
 use Rattle.lines.specs.Gathering.{Open}
 use Rattle.commands.specs.Feeding.{mostShown, Round, Feeds, Ends}
-use Rattle.commands.specs.Sessions.{sheetCapacity, Ready, Session, ended, fed, EverySession}
+use Rattle.commands.specs.Inputs.{sheetCapacity, Ready, PrintedFor, ended, fed, EveryInput}
 use Rattle.commands.proofs.FedLines.{open-none}
 
 -- THE START
@@ -46,13 +46,13 @@ module _ (p line : Bytes) (n : ℕ) (out : Bytes) (r : Ready p line n out) where
   ready-ends k out' e = e .is (r .state) (r .holds) (r .begun) (r .room) .0
 
 -- THE WHOLE RUN
-from-here : {p line input printed : Bytes} {n : ℕ} → Session p line n input printed → (S : State) → Holds p S → 1024 < length line → Open (take n line)
+from-here : {p line input printed : Bytes} {n : ℕ} → PrintedFor p line n input printed → (S : State) → Holds p S → 1024 < length line → Open (take n line)
     → shown S (linesOf (take n line ++ input)) ≡ printed
 from-here (ended {p} {line} {out} {out'} {n} {k} m e) S h w o = ap (λ (s : Bytes). shown S (linesOf s)) (append-nil (take n line)) ∙ e .is S h o m .1
 from-here (fed {p} {line} {piece} {out} {p'} {line'} {out'} {printed} {n} {from} {n'} {from'} {k} later i m l f s) S h w o =
     let t : Round S line n piece from out n' from' k p' line' out' = f .is S h w o i m in
     t .is later ∙ ap (λ (x : Bytes). take k out' ++ x) (from-here s (t .after) (t .holds) (omega arith) (t .begun))
 
-pub every-session : EverySession
+pub every-input : EveryInput
 unfolding sheet
-every-session o p a line input printed l r w s = sym (from-here s (empty sheetCapacity) (started-holds o p a l r) w (open-none line))
+every-input o p a line input printed l r w s = sym (from-here s (empty sheetCapacity) (started-holds o p a l r) w (open-none line))

@@ -29,13 +29,13 @@ pub record Ready (p line : Bytes) (n : ℕ) (out : Bytes) : Type 0 where
 -- what is printed for the rest of an input, from the bytes p of a package and the n bytes of a line on: pieces are fed, each from a place on,
 -- and after each feed so many bytes of the output are printed; then the input ends. (What follows the place in a piece is fed next, then what
 -- follows the piece.)
-pub data Session : Bytes → Bytes → ℕ → Bytes → Bytes → Type 0 where
-  ended : {p line out out' : Bytes} {n k : ℕ} → mostShown ≤ length out → Ends p line n out k out' → Session p line n [] (take k out')
+pub data PrintedFor : Bytes → Bytes → ℕ → Bytes → Bytes → Type 0 where
+  ended : {p line out out' : Bytes} {n k : ℕ} → mostShown ≤ length out → Ends p line n out k out' → PrintedFor p line n [] (take k out')
   fed : {p line piece out p' line' out' printed : Bytes} {n from n' from' k : ℕ} (later : Bytes) → from ≤ length piece → mostShown ≤ length out → length line' ≡ length line
-      → Feeds p line n piece from out n' from' k p' line' out' → Session p' line' n' (drop from' piece ++ later) printed
-      → Session p line n (drop from piece ++ later) (take k out' ++ printed)
+      → Feeds p line n piece from out n' from' k p' line' out' → PrintedFor p' line' n' (drop from' piece ++ later) printed
+      → PrintedFor p line n (drop from piece ++ later) (take k out' ++ printed)
 
 -- THE STATEMENT. After a start with C of 30,000 in a buffer that has room for it, what is printed for an input is document 01's
-abbrev pub EverySession : Type 0
-EverySession = (o p : Bytes) (a : Answer) (line input printed : Bytes) → sheetCapacity + overhead ≤ length o → Ran (Start sheetCapacity) o a p → 1024 < length line
-    → Session p line 0 input printed → printed ≡ sheet input
+abbrev pub EveryInput : Type 0
+EveryInput = (o p : Bytes) (a : Answer) (line input printed : Bytes) → sheetCapacity + overhead ≤ length o → Ran (Start sheetCapacity) o a p → 1024 < length line
+    → PrintedFor p line 0 input printed → printed ≡ sheet input
