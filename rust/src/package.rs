@@ -686,11 +686,6 @@ impl<'a> Package<'a> {
     }
 }
 
-/// The answer of a call that names no value: it answers 0 in its place.
-fn done(reply: Reply) -> Result<(), Refusal> {
-    reply.values().map(|[_]| ())
-}
-
 /// The XML streams.
 impl Package<'_> {
     /// Writes the Media Types stream, the Defaults and then the Overrides in
@@ -776,4 +771,9 @@ impl Package<'_> {
         };
         reply.values().map(|[length]| length)
     }
+}
+
+/// The answer of a call that names no value: it answers 0 in its place.
+fn done(reply: Reply) -> Result<(), Refusal> {
+    reply.values().map(|[_]| ())
 }
