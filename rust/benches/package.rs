@@ -428,11 +428,87 @@ fn walks() {
     );
 }
 
+/// What calls take among so many items, on both sides. The put is the last
+/// item's, so that as many are held after it.
+fn among(count: usize) -> [(f64, f64); 4] {
+    let mut buffer = buffer();
+    let mut pair = Pair::new(&mut buffer);
+    for i in 0..count - 1 {
+        pair.put(&tile(i), b"tile");
+    }
+    let Pair { package, ledger } = &mut pair;
+    let (name, bytes) = (tile(count - 1), [7; 1024]);
+    let changed = support::compare(
+        &format!("put and drop among {count}"),
+        2000,
+        1,
+        |_| {
+            package.put_item(&name, &bytes).expect("room");
+            package.drop_item(&name).expect("held");
+            0
+        },
+        |_| {
+            ledger.put_item(&name, &bytes).expect("room");
+            ledger.drop_item(&name).expect("held");
+            0
+        },
+    );
+    let (mut out, mut other) = ([0; 255], [0; 255]);
+    let at = support::compare(
+        &format!("part at, of {}", count - 1),
+        100_000 / count,
+        count - 1,
+        |i| package.part_at(i as u64, &mut out).expect("a part"),
+        |i| ledger.part_at(i as u64, &mut other).expect("a part"),
+    );
+    let totals = support::compare(
+        &format!("totals of {} items", count - 1),
+        20_000,
+        1,
+        |_| package.totals().expect("a package").parts,
+        |_| ledger.totals().parts as usize,
+    );
+    [
+        find(&format!("find among {count}"), count),
+        changed,
+        at,
+        totals,
+    ]
+}
+
+/// How the time of a call grows with the number of items.
+fn growth() {
+    let (few, many) = (among(16), among(256));
+    let calls = ["find", "put and drop", "part at", "totals"];
+    for (call, (few, many)) in calls.iter().zip(few.iter().zip(&many)) {
+        println!(
+            "{call}, 256 items against 16: archive {:.2} times, reference {:.2} times",
+            many.0 / few.0,
+            many.1 / few.1
+        );
+    }
+}
+
+fn view() {
+    let mut buffer = buffer();
+    let mut pair = Pair::new(&mut buffer);
+    for i in 0..200 {
+        pair.put(&tile(i), &vec![0; i]);
+    }
+    let names: Vec<Vec<u8>> = (0..200).map(asked).collect();
+    support::compare(
+        "view among 200",
+        500,
+        200,
+        |i| pair.package.view_item(&names[i]).len(),
+        |i| pair.ledger.view_item(&names[i]).len(),
+    );
+}
+
 fn main() {
     support::heading();
     find("find among 200", 200);
-    let (archive_16, reference_16) = find("find among 16", 16);
-    let (archive_256, reference_256) = find("find among 256", 256);
+    view();
     puts_and_drops(["put 4 KiB among 200", "drop from the middle"], 0);
     let longer = ["put, 4 MB longer buffer", "drop, 4 MB longer buffer"];
     puts_and_drops(longer, 4_000_000);
@@ -441,9 +517,5 @@ fn main() {
     fields();
     resolves();
     streams();
-    println!(
-        "find among 256 against 16: archive {:.2} times, reference {:.2} times",
-        archive_256 / archive_16,
-        reference_256 / reference_16
-    );
+    growth();
 }
