@@ -6,16 +6,15 @@ use mathlib.Core.List.{List, [], _∷_, _++_, append-assoc}
 use mathlib.Core.Option.{Option, some}
 use native.Mathlib.Omega.{arith}
 use lib.ListN.{length, length-append}
-use borrow.Author.Tests.{eq-eqb, ne-eqb, lt-leb, le-leb}
+use borrow.Author.Tests.{eq-eqb, ne-eqb}
 use Rattle.chars.specs.Bytes.{ascii}
-use Rattle.iri.specs.Answers.{No, Text}
 use Rattle.iri.specs.Scratch.{Sent}
 use Rattle.iri.proofs.Sending.{sent-none, sent-more, sent-as}
 use Rattle.model.specs.Sets.{Bytes}
 use Rattle.model.specs.Texts.{line}
 use Rattle.model.specs.Package.{State, Item, content, spelling, mediaTypeOf}
 use Rattle.model.specs.Sheet.{column, numberLine, typeOrDash, partLine}
-use Rattle.lines.specs.Printing.{padded, cellOf, typeGiven, counts, row, rowOutcome}
+use Rattle.lines.specs.Printing.{padded, cellOf, typeGiven, counts, row}
 use Rattle.lines.proofs.Columns.{column-suc, padded-suc, padded-length, padded-none, column-length}
 
 -- NUMBERS
@@ -105,13 +104,3 @@ answer-length n = go (column 3 n) (column-length 3 n (omega arith))
   where
     go : (x : Bytes) → length x ≡ 3 → length (line x) ≡ 4
     go x e = simp length-append (omega arith)
-
-module _ (p b : ℕ) (name t : Bytes) where
-  pub row-name : 255 < length name → rowOutcome p b name t ≡ No 4
-  row-name h = rw (lt-leb (length name) 255 h)
-
-  pub row-type : length name ≤ 255 → 127 < length t → rowOutcome p b name t ≡ No 7
-  row-type h k = rw (le-leb (length name) 255 h, lt-leb (length t) 127 k)
-
-  pub row-text : length name ≤ 255 → length t ≤ 127 → rowOutcome p b name t ≡ Text (row p b name (typeGiven t))
-  row-text h k = rw (le-leb (length name) 255 h, le-leb (length t) 127 k)

@@ -5,11 +5,10 @@ use Prim.Native.Char.{code}
 use mathlib.Core.Bool.{cond}
 use mathlib.Core.List.{_++_}
 use mathlib.Core.Option.{Option, none, some}
-use lib.Dec.{eqb, leb}
-use lib.ListN.{length, replicate}
+use lib.Dec.{eqb}
+use lib.ListN.{replicate}
 use Rattle.chars.specs.Bytes.{ascii}
 use Rattle.chars.specs.Lists.{none as isEmpty}
-use Rattle.iri.specs.Answers.{Outcome, Text, unless}
 use Rattle.model.specs.Sets.{Bytes}
 use Rattle.model.specs.Texts.{line}
 use Rattle.model.specs.Sheet.{space, column, typeOrDash}
@@ -32,7 +31,3 @@ counts pieces bytes = column 4 pieces ++ (ascii " " ++ (column 8 bytes ++ ascii 
 -- `partLine` of a part with so many pieces and bytes, this name and this type
 abbrev pub row : ℕ → ℕ → Bytes → Option Bytes → Bytes
 row pieces bytes name type = line (column 4 pieces ++ (ascii " " ++ (column 8 bytes ++ (ascii " " ++ (name ++ (ascii " " ++ typeOrDash type))))))
-
--- refused is what no part has: a name above 255 bytes, a type above 127
-abbrev pub rowOutcome : ℕ → ℕ → Bytes → Bytes → Outcome
-rowOutcome pieces bytes name type = unless (leb (length name) 255) 4 (unless (leb (length type) 127) 7 (Text (row pieces bytes name (typeGiven type))))

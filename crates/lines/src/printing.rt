@@ -1,13 +1,11 @@
 // The lines that are printed.
-use iri::writing::Written;
 use iri::writing::emit;
 ghost use mathlib.Core.Path.{_≡_};
 ghost use Prim.Native.Nat.{_≤_, _<_};
 ghost use lib.ListN.{length};
-ghost use Rattle.iri.specs.Answers.{Text, ofWritten, written};
 ghost use Rattle.iri.specs.Scratch.{Sent};
 ghost use Rattle.model.specs.Sheet.{column, numberLine, typeOrDash};
-ghost use Rattle.lines.specs.Printing.{padded, cellOf, typeGiven, counts, row, rowOutcome};
+ghost use Rattle.lines.specs.Printing.{padded, cellOf, typeGiven, counts, row};
 
 // The last digit of v, a space for 0.
 fn cell(v: usize) -> u8
@@ -50,17 +48,6 @@ pub fn put_answer(n: u8, out: &mut [u8]) -> usize
     emit(out, next, b"\n")
 }
 
-// The line of a refusal, or of 0.
-pub fn answer_line(n: u8, out: &mut [u8]) -> Written
-    ensures { λ r. ⌜ ofWritten r (now (out .exit)) ≡ written (Text (numberLine n)) (now (out .entry)) ⌝ }
-{
-    let need = put_answer(n, &mut out[..0]);
-    if out.len() < need {
-        return Written::Short(need);
-    }
-    Written::Bytes(put_answer(n, out))
-}
-
 fn put_counts(pieces: usize, bytes: usize, out: &mut [u8]) -> usize
     ensures { λ r. ⌜ Sent (now (out .entry)) 0 (counts pieces bytes) r (now (out .exit)) ⌝ }
 {
@@ -90,21 +77,4 @@ pub fn put_row(pieces: usize, bytes: usize, name: &[u8], kind: &[u8], out: &mut 
     let c = emit(out, b, b" ");
     let d = put_type(kind, c, out);
     emit(out, d, b"\n")
-}
-
-// The line of a part in a listing. An empty type stands for none.
-pub fn listing_row(pieces: usize, bytes: usize, name: &[u8], kind: &[u8], out: &mut [u8]) -> Written
-    ensures { λ r. ⌜ ofWritten r (now (out .exit)) ≡ written (rowOutcome pieces bytes (now (name .entry)) (now (kind .entry))) (now (out .entry)) ⌝ }
-{
-    if 255 < name.len() {
-        return Written::Refused(4);
-    }
-    if 127 < kind.len() {
-        return Written::Refused(7);
-    }
-    let need = put_row(pieces, bytes, name, kind, &mut out[..0]);
-    if out.len() < need {
-        return Written::Short(need);
-    }
-    Written::Bytes(put_row(pieces, bytes, name, kind, out))
 }
