@@ -2,7 +2,7 @@
 -- Assumes nothing.
 use Prim.Native.Nat.{ℕ, zero, suc, _+_, _-_, _/_, _≤_, _<_}
 use mathlib.Core.Path.{_≡_, refl, ap, ap₂, sym, _∙_, subst}
-use mathlib.Core.Bool.{Bool, true, false, not}
+use mathlib.Core.Bool.{Bool, true, false}
 use mathlib.Core.List.{List, [], _∷_, _++_, map}
 use native.Mathlib.Nat.{zero-add, add-zero}
 use native.Mathlib.Omega.{arith}
@@ -11,20 +11,18 @@ use lib.ListN.{length, getD, length-map}
 use lib.Seq.{getD-append-add}
 use borrow.Author.Tests.{ltb-true, ltb-false}
 use Rattle.chars.specs.Folding.{fold, order}
-use Rattle.chars.specs.declared.folding.Order.{Order}
-use Rattle.model.specs.Sets.{Bytes, Key, keyOrder, thenBy, isLess, isEqual, before, sameKey, Each}
+use Rattle.model.specs.Sets.{Bytes, keyOrder, thenBy, before}
 use Rattle.model.specs.Places.{firstWhere, bound}
 use Rattle.model.specs.Fields.{prefixOf, suffixOf}
 use Rattle.model.specs.Package.{Item, Default, State, keyOfItem, keyOfDefault}
-use Rattle.model.proofs.Lists.{each-map, each-at}
+use Rattle.model.proofs.Lists.{each-at}
 use Rattle.store.specs.Layout.{countOf}
-use Rattle.store.specs.Rows.{Row, noRow, rowAt, tagAt, rowsOf, fieldOf}
+use Rattle.store.specs.Rows.{Row, noRow, rowAt, tagAt, fieldOf}
 use Rattle.store.proofs.Headers.{row-getD}
 use Rattle.contract.specs.Rows.{tagOf, defaultTag, itemRow, defaultRow, overrideRow, relationshipRow, otherRows, rowsFor, setOf, second, keyIn, rowKey}
 use Rattle.contract.specs.Holds.{Holds}
-use Rattle.contract.specs.Searches.{Stands, Bounded}
-use Rattle.contract.proofs.RowSearch.{set-same}
-use Rattle.contract.proofs.RowKeys.{tag-set, item-row-key, item-row-set, default-row-key}
+use Rattle.contract.specs.Searches.{Bounded}
+use Rattle.contract.proofs.RowKeys.{tag-set, item-row-key, default-row-key}
 use Rattle.contract.proofs.RowOrders.{set-bound, others-above, defaults-above, items-below, holds-ordered}
 use Rattle.contract.proofs.RowCharges.{count-rows}
 
@@ -70,17 +68,6 @@ module _ (b : List ℕ) (S : State) (h : Holds b S) where
   item-bound p t id r e =
       e .is (holds-ordered b S h) ∙ ap (λ (rs : List Row). bound rowKey (0 ∷ fold p, t / 2 ∷ []) rs) (h .lies .rows)
       ∙ set-bound keyOfItem itemRow 0 item-row-key (fold p, t / 2 ∷ []) [] (otherRows S) (S .items) tt (others-above S) ∙ zero-add _
-
-  -- how item i stands to a key
-  pub item-stands : (i : ℕ) (p : Bytes) (t : ℕ) (id : Bytes) (o : Order) → i < length (S .items) → Stands b i (keyIn 0 p t id) o
-      → o ≡ keyOrder (keyOfItem (getD (S .items) i noItem)) (fold p, t / 2 ∷ [])
-  unfolding second
-  item-stands i p t id o l e =
-      let x = getD (S .items) i noItem in
-      e .is (h .lies .sound) (omega (arith, items-le))
-      ∙ ap (λ (r : Row). keyOrder (rowKey r) (0 ∷ fold p, t / 2 ∷ [])) (item-row i l)
-      ∙ ap (λ (k : Key). keyOrder k (0 ∷ fold p, t / 2 ∷ [])) (item-row-key x)
-      ∙ set-same 0 (keyOfItem x .0) (fold p) (keyOfItem x .1) (t / 2 ∷ [])
 
   -- how many items there are: the first row that is not before the least key of the next set
   pub item-count : (id : Bytes) (r : ℕ) → Bounded b (keyIn 1 [] 0 id) r → r ≡ length (S .items)

@@ -3,23 +3,22 @@
 -- Assumes nothing.
 use Prim.Native.Nat.{ℕ, suc, _+_, _-_, _≤_, _<_}
 use mathlib.Core.Path.{_≡_, refl, ap, ap₂, sym, _∙_, subst}
-use mathlib.Core.Bool.{Bool, true, false, not, _&&_, _||_, cond, true≢false}
+use mathlib.Core.Bool.{Bool, true, false, not, _||_, cond, true≢false}
 use mathlib.Core.List.{List, [], _∷_, _++_}
 use native.Mathlib.Omega.{arith}
 use lib.Dec.{ltb, eqb}
 use lib.ListN.{length, getD, take, drop, length-map, length-drop, length-append}
-use borrow.Author.Tests.{le-ltb, ltb-true, ltb-false, lt-ltb, eqb-true, eq-eqb, ne-eqb, eqb-false, not-true, not-false}
+use borrow.Author.Tests.{le-ltb, ltb-true, ltb-false, lt-ltb, eqb-true, not-true, not-false}
 use Rattle.chars.specs.Bytes.{slash}
 use Rattle.chars.specs.Lists.{same, begins}
 use Rattle.chars.specs.Folding.{lower, fold, equivalent, derivable, order}
 use Rattle.chars.specs.declared.folding.Order.{Order}
 use Rattle.chars.specs.declared.folding.Order.the-variants.{Less, Equal, Greater}
-use Rattle.chars.proofs.Bools.{and-left, and-right, and-true}
+use Rattle.chars.proofs.Bools.{and-right, and-true}
 use Rattle.chars.proofs.Orders.{order-equal, order-less}
-use Rattle.chars.proofs.Equivalence.{equivalent-fold, fold-equivalent}
 use Rattle.chars.proofs.Derivability.{begins-split, begins-append, derivable-longer, derivable-split, derivable-join, derivable-is, derivable-irrefl, take-map}
 use Rattle.names.specs.Names.{partName}
-use Rattle.model.specs.Sets.{Bytes, Key, thenBy, keyOrder, isLess, before, any, Sorted}
+use Rattle.model.specs.Sets.{Bytes, Key, thenBy, keyOrder, isLess, before, any}
 use Rattle.model.specs.Places.{firstWhere, bound}
 use Rattle.model.specs.Fields.{prefixOf}
 use Rattle.model.specs.Package.{Item, State, itemKey, keyOfItem, grows}
@@ -28,11 +27,11 @@ use Rattle.model.proofs.Bools.{not-passing}
 use Rattle.model.proofs.Lists.{append-nil, pairs-at, each-at}
 use Rattle.model.proofs.Walks.{first-le, first-lt, first-passes, first-le-passing, failing-lt-first, before-first}
 use Rattle.model.proofs.Places.{not-before-monotone}
-use Rattle.model.proofs.Slashes.{part-no-slash, begins-between, not-less-append}
-use Rattle.model.proofs.Derivations.{prefixes-named}
+use Rattle.model.proofs.ItemNames.{prefixes-named}
+use Rattle.model.proofs.Slashes.{part-no-slash, begins-between}
 use Rattle.contract.proofs.ItemRows.{noItem}
 use Rattle.items.specs.Clashes.{common, extends}
-use Rattle.items.proofs.CommonStarts.{common-append, common-nil}
+use Rattle.items.proofs.CommonStarts.{common-append}
 
 -- the order of keys, by their first texts
 text-less : (a c : Key) → order (a .0) (c .0) ≡ Less → before a c ≡ true

@@ -17,14 +17,6 @@ or-comm true false = refl
 or-comm false true = refl
 or-comm false false = refl
 
-pub or-left : (a b : Bool) → a ≡ true → (a || b) ≡ true
-or-left true b e = refl
-or-left false b e = absurd (true≢false (sym e))
-
-pub or-right : (a b : Bool) → b ≡ true → (a || b) ≡ true
-or-right true b e = refl
-or-right false b e = e
-
 pub beq-refl : (b : Bool) → Bool·beq b b ≡ true
 beq-refl true = refl
 beq-refl false = refl

@@ -7,7 +7,7 @@ use mathlib.Core.Bool.{Bool, true, false, not, _&&_, _||_, cond, true≢false}
 use mathlib.Core.List.{List, [], _∷_}
 use native.Mathlib.Omega.{arith}
 use lib.Dec.{ltb, eqb}
-use lib.ListN.{length, getD, take, drop}
+use lib.ListN.{length, take, drop}
 use lib.Seq.{slice}
 use borrow.Author.Tests.{le-ltb, lt-ltb, ltb-true, ltb-false, le-leb, lt-leb, ne-eqb, not-false}
 use Rattle.chars.specs.Bytes.{underscore, within, letter, member}
@@ -20,7 +20,7 @@ use Rattle.chars.specs.declared.folding.Order.{Order}
 use Rattle.chars.specs.declared.folding.Order.the-variants.{Less, Equal, Greater}
 use Rattle.chars.specs.declared.search.Alphabet.the-variants.{Id}
 use Rattle.names.specs.Types.{identifier}
-use Rattle.model.specs.Sets.{Bytes, thenBy, keyOrder, isLess, isEqual, before, any, Each, Pairs, Sorted}
+use Rattle.model.specs.Sets.{Bytes, thenBy, keyOrder, isLess, isEqual, before, Each, Pairs, Sorted}
 use Rattle.model.specs.Places.{bound, lead}
 use Rattle.model.specs.Fields.{prefixOf, suffixOf, relationshipFields}
 use Rattle.model.specs.Package.{Item, Relationship, rank, keyOfItem, keyOfRelationship, group}
@@ -32,7 +32,7 @@ use Rattle.model.proofs.Walks.{Parted, those-between}
 use Rattle.model.proofs.Places.{not-before-monotone}
 use Rattle.model.proofs.KeyOrders.{goes-on-less}
 use Rattle.model.proofs.Keys.{order-same, number-less}
-use Rattle.model.proofs.Spans.{span-past, span-from, span, headed-bound}
+use Rattle.model.proofs.Spans.{span-past, span-from, span}
 
 -- the test of a group
 abbrev pub alike : Bytes → Item → Bool
@@ -73,10 +73,6 @@ unfolding order
 least-text [] = refl
 least-text (x ∷ u) = refl
 
-least-id : (t u : Bytes) → before (t, u) (t, []) ≡ false
-unfolding keyOrder thenBy
-least-id t u = rw (order-refl t) (least-text u)
-
 least-item : (p : Bytes) (i : Item) → fold (prefixOf (i .name)) ≡ fold p → before (keyOfItem i) (fold p, 0 ∷ []) ≡ false
 least-item p i e = ap (λ (t : Bytes). before (t, rank (suffixOf (i .name)) ∷ []) (fold p, 0 ∷ [])) e ∙ least-rank (fold p) (rank (suffixOf (i .name)))
 
@@ -86,24 +82,6 @@ pub group-run :
     group p xs ≡ take (lead (alike p) (drop (bound keyOfItem (fold p, 0 ∷ []) xs) xs)) (drop (bound keyOfItem (fold p, 0 ∷ []) xs) xs)
 unfolding group equivalent
 group-run p xs s = span keyOfItem (fold p) (0 ∷ []) (least-item p) xs s
-
--- some item is of the group p if and only if the one at that bound is
-pub alike-bound :
-    (p : Bytes) (xs : List Item) (d : Item) → Sorted keyOfItem xs →
-    any (alike p) xs ≡ (ltb (bound keyOfItem (fold p, 0 ∷ []) xs) (length xs) && alike p (getD xs (bound keyOfItem (fold p, 0 ∷ []) xs) d))
-unfolding equivalent
-alike-bound p xs d s = headed-bound keyOfItem (fold p) (0 ∷ []) (least-item p) xs d s
-
--- the relationships of a source are the run from the first that is not before (the source folded, no id)
-pub source-run :
-    (s : Bytes) (rs : List Relationship) → Sorted keyOfRelationship rs →
-    ofSource s rs
-    ≡ take (lead (λ (r : Relationship). equivalent (r .source) s) (drop (bound keyOfRelationship (fold s, []) rs) rs)) (drop (bound keyOfRelationship (fold s, []) rs) rs)
-unfolding equivalent
-source-run s rs o = span keyOfRelationship (fold s) [] least rs o
-  where
-    least : (r : Relationship) → fold (r .source) ≡ fold s → before (keyOfRelationship r) (fold s, []) ≡ false
-    least r e = ap (λ (t : Bytes). before (t, r .id) (fold s, [])) e ∙ least-id (fold s) (r .id)
 
 -- every id is before `~`, which is above all letters and `_`
 abbrev pub tilde : ℕ

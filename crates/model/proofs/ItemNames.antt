@@ -16,8 +16,11 @@ use Rattle.names.specs.declared.items.Suffix.{Suffix}
 use Rattle.names.specs.declared.items.Suffix.the-variants.{Whole, Piece}
 use Rattle.names.specs.declared.items.ItemName.{ItemName}
 use Rattle.names.specs.declared.items.ItemName.the-variants.{Named, Refused}
-use Rattle.model.specs.Sets.{Bytes}
+use Rattle.model.specs.Sets.{Bytes, Each}
 use Rattle.model.specs.Fields.{prefixIn, suffixIn, prefixOf, suffixOf, itemField}
+use Rattle.model.specs.Package.{Item, State}
+use Rattle.model.specs.Good.{Good, fieldsOfItem}
+use Rattle.model.proofs.Lists.{each-map}
 use Rattle.model.proofs.Refusals.{all-none, unmet}
 
 named-refused : (n k : ℕ) (x : Suffix) → Named n x ≡ Refused k → ⊥
@@ -98,3 +101,7 @@ accepted-prefix s h =
     splits : (m : ItemName) → itemName s ≡ m → itemRefusal m ≡ 0 → partName (prefixOf s) ≡ true
     splits (Named n x) e f = ap partName (prefix-named s n x e) ∙ prefix-part s n x e .0
     splits (Refused k) e f = absurd (refused-number s k e f)
+
+-- the prefixes of held items are part names
+pub prefixes-named : (S : State) → Good S → Each (λ (i : Item). partName (prefixOf (i .name)) ≡ true) (S .items)
+prefixes-named S g = each-map (λ (i : Item). fieldsOfItem i ≡ 0) (λ (i : Item). partName (prefixOf (i .name)) ≡ true) (S .items) (λ i h. accepted-prefix (i .name) h .0) (g .items .fielded)

@@ -25,6 +25,4 @@ pub mod Inverses
 pub mod Demands
 pub mod Neighbours
 pub mod Slashes
-pub mod Derivations
 pub mod FreshPuts
-pub mod Clashes

@@ -9,7 +9,7 @@ use lib.Dec.{ltb}
 use lib.ListN.{length, getD, take, drop, length-drop}
 use lib.Seq.{slice, length-take-le, getD-take, getD-drop, drop-nil, take-append-add, drop-append-add}
 use borrow.Author.Tests.{ltb-true, ltb-false, lt-ltb, le-ltb}
-use Rattle.model.specs.Sets.{any, those, sumOf, Each, Pairs}
+use Rattle.model.specs.Sets.{any, those, Each, Pairs}
 use Rattle.model.proofs.Bools.{or-false-left, or-false-right, not-passing}
 
 module _ {E : Type 0} where
@@ -238,14 +238,5 @@ module _ {E : Type 0} where
   length-those p (x ∷ xs) = go (p x) (length-those p xs)
     where
       go : (b : Bool) → length (those p xs) ≤ length xs → length (cond b (x ∷ those p xs) (those p xs)) ≤ suc (length xs)
-      go true h = omega arith
-      go false h = omega arith
-
-  pub sum-those : (p : E → Bool) (c : E → ℕ) (xs : List E) → sumOf c (those p xs) ≤ sumOf c xs
-  unfolding those sumOf
-  sum-those p c [] = omega arith
-  sum-those p c (x ∷ xs) = go (p x) (sum-those p c xs)
-    where
-      go : (b : Bool) → sumOf c (those p xs) ≤ sumOf c xs → sumOf c (cond b (x ∷ those p xs) (those p xs)) ≤ c x + sumOf c xs
       go true h = omega arith
       go false h = omega arith

@@ -1,13 +1,12 @@
 -- What is found after an insertion and after a removal; a sorted list is known by what is found in it.
 -- Assumes nothing.
-use Prim.Native.Nat.{ℕ, suc, _+_}
+use Prim.Native.Nat.{ℕ, _+_}
 use mathlib.Core.Path.{_≡_, refl, ap, ap₂, sym, _∙_, subst}
-use mathlib.Core.Bool.{Bool, true, false, _||_, cond, true≢false}
+use mathlib.Core.Bool.{Bool, true, false, cond, true≢false}
 use mathlib.Core.List.{List, [], _∷_}
 use mathlib.Core.Option.{none, some}
 use native.Mathlib.Omega.{arith}
-use lib.ListN.{length}
-use Rattle.model.specs.Sets.{Key, before, sameKey, held, any, sumOf, lookup, insert, remove, Each, Sorted}
+use Rattle.model.specs.Sets.{Key, before, sameKey, sumOf, lookup, insert, remove, Each, Sorted}
 use Rattle.model.proofs.Lists.{each-map}
 use Rattle.model.proofs.KeyOrders.{same-before, before-trans, before-turn, same-key-refl, before-not-same, same-key-trans}
 
@@ -109,16 +108,6 @@ module _ {E : Type 0} (key : E → Key) where
               (λ z l. same-before k (key y) (key z) (sym (ap (λ (w : E). sameKey k (key w)) heads) ∙ e) l) (t .0)))
           go false e = sym (lookup-tail k x xs e) ∙ h k ∙ lookup-tail k y ys (sym (ap (λ (w : E). sameKey k (key w)) heads) ∙ e)
 
-  -- an entry is held where a key is the same
-  pub held-any : (k : Key) (xs : List E) → held (lookup key k xs) ≡ any (λ (x : E). sameKey k (key x)) xs
-  unfolding any lookup
-  held-any k [] = refl
-  held-any k (x ∷ xs) = go (sameKey k (key x)) (held-any k xs)
-    where
-      go : (t : Bool) → held (lookup key k xs) ≡ any (λ (x : E). sameKey k (key x)) xs → held (cond t (some x) (lookup key k xs)) ≡ (t || any (λ (x : E). sameKey k (key x)) xs)
-      go true e = refl
-      go false e = e
-
   -- the entry that is found has the key
   pub lookup-key : (k : Key) (xs : List E) (e : E) → lookup key k xs ≡ some e → sameKey k (key e) ≡ true
   unfolding lookup
@@ -150,14 +139,3 @@ module _ {E : Type 0} (key : E → Key) where
           sumOf f (cond b xs (x ∷ remove key k xs)) + f e ≡ f x + sumOf f xs
       go true l h = let m : x ≡ e = cc in omega (arith, ap f m)
       go false l h = omega (arith, h l)
-
-  pub length-removed : (k : Key) (xs : List E) (e : E) → lookup key k xs ≡ some e → suc (length (remove key k xs)) ≡ length xs
-  unfolding lookup remove
-  length-removed k [] e h = let z : _≡_ {A = ℕ} 0 1 = cc in absurd (omega arith)
-  length-removed k (x ∷ xs) e h = go (sameKey k (key x)) h (length-removed k xs e)
-    where
-      go :
-          (b : Bool) → cond b (some x) (lookup key k xs) ≡ some e → (lookup key k xs ≡ some e → suc (length (remove key k xs)) ≡ length xs) →
-          suc (length (cond b xs (x ∷ remove key k xs))) ≡ suc (length xs)
-      go true l h = refl
-      go false l h = ap suc (h l)

@@ -1,4 +1,4 @@
--- Which held items a new one has to be compared with for 12: the last of its group, or the two beside its place.
+-- Which held items a new one has to be compared with for 12: the two beside its place.
 -- Assumes nothing.
 use Prim.Native.Nat.{ℕ, _-_, _≤_, _<_}
 use mathlib.Core.Path.{_≡_, refl, ap, ap₂, sym, _∙_}
@@ -18,13 +18,13 @@ use Rattle.model.specs.Places.{place}
 use Rattle.model.specs.Fields.{prefixOf, suffixOf}
 use Rattle.model.specs.Package.{Item, rank, itemKey, keyOfItem, group, disagrees}
 use Rattle.model.specs.Good.{Beside}
-use Rattle.model.proofs.Lists.{each-both, each-take, pairs-map, pairs-take, pairs-drop, pairs-both, pairs-each, any-last, any-head, any-those, any-append, pairs-those, last-of-take, head-of-drop}
+use Rattle.model.proofs.Lists.{each-both, each-take, pairs-map, pairs-take, pairs-drop, pairs-both, pairs-each, any-last, any-head, any-those, any-append, last-of-take, head-of-drop}
 use Rattle.model.proofs.Walks.{first-le, first-fails, first-rest}
 use Rattle.model.proofs.KeyOrders.{before-turn, between, goes-on-less}
 use Rattle.model.proofs.Keys.{number-less}
 use Rattle.model.proofs.Sets.{Absent}
 use Rattle.model.proofs.Places.{greater-monotone}
-use Rattle.model.proofs.Groups.{alike, group-numbered}
+use Rattle.model.proofs.Groups.{alike}
 
 -- SUFFIXES. x disagrees with y only if it also does with w, which stands behind y and agrees with it
 disagrees-behind : (x y w : Suffix) → rank y < rank w → disagrees y w ≡ false → disagrees x y ≡ true → disagrees x w ≡ true
@@ -54,30 +54,6 @@ disagrees-between (Piece k b) (Piece j m) (Piece j′ m′) l n d = go b m m′ 
     go true false m′ d = lt-ltb k j (omega arith)
     go false m true d = absurd (true≢false (sym d))
     go false m false d = absurd (true≢false (sym d))
-
--- IN A GROUP of held items, which all stand beside each other, x disagrees with some item if and only if it disagrees with the last
-abbrev Numbered : Item → Item → Type 0
-Numbered i j = rank (suffixOf (i .name)) < rank (suffixOf (j .name))
-
-abbrev Agreeing : Item → Item → Type 0
-Agreeing i j = disagrees (suffixOf (i .name)) (suffixOf (j .name)) ≡ false
-
-module _ (xs : List Item) (s : Sorted keyOfItem xs) (b : Pairs Beside xs) where
-  pub group-agreeing : (p : Bytes) → Pairs (λ (i j : Item). disagrees (suffixOf (i .name)) (suffixOf (j .name)) ≡ false) (group p xs)
-  unfolding group
-  group-agreeing p =
-      pairs-those Beside Agreeing (alike p) xs
-      (λ i j e f r. r .agreeing (fold-equivalent (prefixOf (i .name)) (prefixOf (j .name)) (equivalent-fold (prefixOf (i .name)) p e ∙ sym (equivalent-fold (prefixOf (j .name)) p f)))) b
-
-  pub disagrees-last :
-      (p : Bytes) (x : Suffix) (d : Item) →
-      any (λ (i : Item). disagrees x (suffixOf (i .name))) (group p xs)
-      ≡ (ltb 0 (length (group p xs)) && disagrees x (suffixOf (getD (group p xs) (length (group p xs) - 1) d .name)))
-  disagrees-last p x d =
-      any-last (λ (i : Item). disagrees x (suffixOf (i .name))) (group p xs) d
-      (pairs-map (λ (i j : Item). Numbered i j × Agreeing i j) (λ (i j : Item). disagrees x (suffixOf (i .name)) ≡ true → disagrees x (suffixOf (j .name)) ≡ true) (group p xs)
-      (λ i j h e. disagrees-behind x (suffixOf (i .name)) (suffixOf (j .name)) (h .0) (h .1) e)
-      (pairs-both Numbered Agreeing (group p xs) (group-numbered p xs s) (group-agreeing p)))
 
 -- THE NEIGHBOURS. An item of the group of `name` whose suffix disagrees with that of `name`
 abbrev pub clashing : Bytes → Item → Bool

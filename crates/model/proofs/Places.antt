@@ -1,20 +1,19 @@
 -- Insertion, removal and lookup by the number of an entry; binary search in a sorted set.
 -- Assumes nothing.
-use Prim.Native.Nat.{ℕ, suc, _≤_, _<_}
+use Prim.Native.Nat.{suc, _≤_, _<_}
 use mathlib.Core.Path.{_≡_, refl, ap, sym, _∙_}
-use mathlib.Core.Bool.{Bool, true, false, not, _&&_, cond, true≢false}
+use mathlib.Core.Bool.{Bool, true, false, not, cond, true≢false}
 use mathlib.Core.List.{List, [], _∷_, _++_}
 use mathlib.Core.Option.{none, some}
 use native.Mathlib.Omega.{arith}
-use lib.Dec.{ltb}
 use lib.ListN.{length, getD, take, drop}
-use borrow.Author.Tests.{ltb-true, ltb-false, not-true}
-use Rattle.model.specs.Sets.{Key, before, sameKey, held, lookup, insert, remove, Each, Sorted}
+use borrow.Author.Tests.{not-true}
+use Rattle.model.specs.Sets.{Key, before, sameKey, lookup, insert, remove, Each, Sorted}
 use Rattle.model.specs.Places.{firstWhere, place, bound, spot}
 use Rattle.model.proofs.Bools.{not-passing}
 use Rattle.model.proofs.Lists.{pairs-map}
 use Rattle.model.proofs.KeyOrders.{before-trans, before-asym, before-turn, before-not-same, same-key-sym}
-use Rattle.model.proofs.Walks.{Monotone, first-at}
+use Rattle.model.proofs.Walks.{Monotone}
 
 module _ {E : Type 0} (key : E → Key) where
   pub insert-at : (e : E) (xs : List E) → insert key e xs ≡ take (place key (key e) xs) xs ++ (e ∷ drop (place key (key e) xs) xs)
@@ -70,12 +69,6 @@ module _ {E : Type 0} (key : E → Key) where
       pairs-map (λ (x y : E). before (key x) (key y) ≡ true) (λ (x y : E). not (before (key x) k) ≡ true → not (before (key y) k) ≡ true) xs
       (λ x y l e. ap not (not-passing (before (key y) k) (λ m. true≢false (sym (before-trans (key x) (key y) k l m) ∙ not-true (before (key x) k) e)))) s
 
-  -- the place of a key, found by halving: the entry below is not greater, the entry at it is
-  pub place-at :
-      (k : Key) (xs : List E) (i : ℕ) (d : E) → Sorted key xs → i ≤ length xs → ((j : ℕ) → i ≡ suc j → before k (key (getD xs j d)) ≡ false) →
-      (i < length xs → before k (key (getD xs i d)) ≡ true) → place key k xs ≡ i
-  place-at k xs i d s l a b = first-at (λ (x : E). before k (key x)) xs i d (greater-monotone k xs s) l a b
-
   -- the entry that has the key stands at the bound, or there is none
   pub bound-hit : (k : Key) (xs : List E) (d : E) → Sorted key xs → bound key k xs < length xs → sameKey k (key (getD xs (bound key k xs) d)) ≡ true → spot key k xs ≡ bound key k xs
   unfolding firstWhere
@@ -107,17 +100,6 @@ module _ {E : Type 0} (key : E → Key) where
           none-behind : (ys : List E) → Each (λ (y : E). before (key x) (key y) ≡ true) ys → before k (key x) ≡ true → lookup key k ys ≡ none
           none-behind [] h g = refl
           none-behind (y ∷ ys) h g = rw (before-not-same k (key y) (before-trans k (key x) (key y) g (h .0))) (none-behind ys (h .1) g)
-
-  pub held-bound : (k : Key) (xs : List E) (d : E) → Sorted key xs → held (lookup key k xs) ≡ (ltb (bound key k xs) (length xs) && sameKey k (key (getD xs (bound key k xs) d)))
-  held-bound k xs d s = go (ltb (bound key k xs) (length xs)) refl (sameKey k (key (getD xs (bound key k xs) d))) refl
-    where
-      go : (b : Bool) → ltb (bound key k xs) (length xs) ≡ b → (c : Bool) → sameKey k (key (getD xs (bound key k xs) d)) ≡ c → held (lookup key k xs) ≡ (b && c)
-      go true e true f =
-          let l : bound key k xs < length xs = ltb-true (bound key k xs) (length xs) e in
-          let h : spot key k xs ≡ bound key k xs = bound-hit k xs d s l f in
-          ap held (lookup-at k xs d (omega arith))
-      go true e false f = ap held (bound-miss k xs d s (λ l. f))
-      go false e c f = ap held (bound-miss k xs d s (λ l. absurd (omega (arith, ltb-false (bound key k xs) (length xs) e))))
 
   -- where no entry has the key, its bound is its place
   pub bound-place : (k : Key) (xs : List E) → Each (λ (x : E). sameKey k (key x) ≡ false) xs → bound key k xs ≡ place key k xs

@@ -7,15 +7,14 @@ use mathlib.Core.List.{List, [], _∷_, _++_}
 use native.Mathlib.Omega.{arith}
 use lib.Dec.{leb, ltb, eqb}
 use lib.ListN.{length, take}
-use borrow.Author.Tests.{ltb-false, leb-true, eqb-true, eq-eqb, le-ltb}
+use borrow.Author.Tests.{ltb-false, leb-true, eqb-true, eq-eqb}
 use Rattle.chars.specs.Bytes.{slash, within}
 use Rattle.chars.specs.Lists.{same, begins, split, cut, all}
 use Rattle.chars.specs.Folding.{lower, fold, order}
 use Rattle.chars.specs.declared.folding.Order.the-variants.{Less, Greater}
 use Rattle.chars.proofs.Bools.{and-left, and-right, and-true, and-false}
-use Rattle.chars.proofs.Orders.{less-equal, less-greater}
+use Rattle.chars.proofs.Orders.{less-greater}
 use Rattle.names.specs.Names.{segment, partName}
-use Rattle.model.specs.Sets.{isLess}
 
 -- A PART NAME DOES NOT END WITH A SLASH
 split-some : (b : ℕ) (s : List ℕ) → split b s ≡ [] → ⊥
@@ -92,16 +91,3 @@ begins-between (x ∷ t) (y ∷ a) (z ∷ b) h l e =
     go false i true j h l ih = absurd (less-greater (sym l))
     go false i false j h l ih =
         and-true (eqb y x) (same (take (length t) a) t) (eq-eqb y x (omega (arith, ltb-false y x i, ltb-false x y j))) (ih h l)
-
--- a longer text is not before what it begins with
-pub not-less-append : (t r : List ℕ) → order (t ++ r) t ≡ Less → ⊥
-unfolding order
-not-less-append [] [] e = less-equal (sym e)
-not-less-append [] (x ∷ r) e = less-greater (sym e)
-not-less-append (x ∷ t) r e = not-less-append t r (rw (le-ltb x x (omega arith)) at e)
-
--- nothing is before the empty text
-pub no-id : (u : List ℕ) → isLess (order u []) ≡ true → ⊥
-unfolding order
-no-id [] e = true≢false (sym e)
-no-id (x ∷ u) e = true≢false (sym e)

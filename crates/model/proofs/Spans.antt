@@ -2,23 +2,20 @@
 -- Assumes nothing.
 use Prim.Native.Nat.{ℕ, suc}
 use mathlib.Core.Path.{_≡_, refl, ap, ap₂, sym, _∙_}
-use mathlib.Core.Bool.{Bool, true, false, not, _&&_, _||_, cond, true≢false}
+use mathlib.Core.Bool.{Bool, true, false, not, cond, true≢false}
 use mathlib.Core.List.{List, [], _∷_, _++_}
-use lib.Dec.{ltb}
-use lib.ListN.{length, getD, take, drop, take-append-drop}
-use borrow.Author.Tests.{not-true, not-false}
+use lib.ListN.{take, drop, take-append-drop}
 use Rattle.chars.specs.Lists.{same}
 use Rattle.chars.specs.Folding.{order}
 use Rattle.chars.specs.declared.folding.Order.{Order}
 use Rattle.chars.specs.declared.folding.Order.the-variants.{Less}
 use Rattle.chars.proofs.Equivalence.{same-eq, eq-same}
-use Rattle.model.specs.Sets.{Bytes, Key, thenBy, keyOrder, isLess, before, any, those, Each, Sorted}
+use Rattle.model.specs.Sets.{Bytes, Key, thenBy, keyOrder, isLess, before, those, Each, Sorted}
 use Rattle.model.specs.Places.{firstWhere, bound, lead}
 use Rattle.model.proofs.Bools.{not-passing}
-use Rattle.model.proofs.Lists.{each-map, pairs-map, pairs-drop, pairs-both, pairs-each, append-nil, any-append, none-any, any-head, head-of-drop, those-append, those-all, those-none}
+use Rattle.model.proofs.Lists.{each-map, append-nil, those-append, those-all, those-none}
 use Rattle.model.proofs.KeyOrders.{between, begins-less}
-use Rattle.model.proofs.Walks.{first-fails, first-rest, lead-take}
-use Rattle.model.proofs.Places.{not-before-monotone}
+use Rattle.model.proofs.Walks.{lead-take}
 
 module _ {E : Type 0} (key : E → Key) (t : Bytes) where
   -- the key begins with the text t
@@ -88,30 +85,3 @@ module _ {E : Type 0} (key : E → Key) (t : Bytes) where
         go false b true h ih = sym (ap (λ (c : Bool). cond c (x ∷ those headed xs) (those headed xs)) h) ∙ span-from x xs h s ∙ sym (rw h)
         go false b false h ih =
             those-none headed xs (each-map (λ (z : E). before (key x) (key z) ≡ true) (λ (z : E). headed z ≡ false) xs (λ z l. greater x z h b l) (s .0)) ∙ sym (rw h)
-
-    -- some entry has the text if and only if the one at the bound does
-    pub headed-bound : (xs : List E) (d : E) → Sorted key xs → any headed xs ≡ (ltb (bound key (t, u) xs) (length xs) && headed (getD xs (bound key (t, u) xs) d))
-    headed-bound xs d s =
-        ap (any headed) (sym (take-append-drop n xs))
-        ∙ any-append headed (take n xs) (drop n xs)
-        ∙ ap (λ (b : Bool). b || any headed (drop n xs)) (none-any headed (take n xs) (each-map (λ (x : E). not (before (key x) (t, u)) ≡ false) (λ (x : E). headed x ≡ false) (take n xs) none-before
-        (first-fails (λ (x : E). not (before (key x) (t, u))) xs)))
-        ∙ any-head headed (drop n xs) d
-        (pairs-map (λ (x z : E). before (key x) (key z) ≡ true × (NotBefore x × NotBefore z)) (λ (x z : E). headed z ≡ true → headed x ≡ true) (drop n xs)
-        (λ x z h e. head x z (headed x) refl h e)
-        (pairs-both (λ (x z : E). before (key x) (key z) ≡ true) (λ (x z : E). NotBefore x × NotBefore z) (drop n xs) (pairs-drop (λ (x z : E). before (key x) (key z) ≡ true) n xs s)
-        (pairs-each NotBefore (drop n xs) (first-rest (λ (x : E). not (before (key x) (t, u))) xs (not-before-monotone key (t, u) xs s)))))
-        ∙ head-of-drop headed n xs d
-      where
-        n : ℕ
-        n = bound key (t, u) xs
-
-        NotBefore : E → Type 0
-        NotBefore x = not (before (key x) (t, u)) ≡ true
-
-        none-before : (x : E) → not (before (key x) (t, u)) ≡ false → headed x ≡ false
-        none-before x e = not-passing (headed x) (λ h. true≢false (sym (not-false (before (key x) (t, u)) e) ∙ least x (same-eq (key x .0) t h)))
-
-        head : (x z : E) (b : Bool) → headed x ≡ b → before (key x) (key z) ≡ true × (NotBefore x × NotBefore z) → headed z ≡ true → b ≡ true
-        head x z true f h e = refl
-        head x z false f h e = absurd (true≢false (sym e ∙ greater x z f (not-true (before (key x) (t, u)) (h .1 .0)) (h .0)))

@@ -116,25 +116,6 @@ module _ {E : Type 0} where
         go t e zero a z = omega (arith, high t e)
         go t e (suc j) a z = omega (arith, high t e, failing-lt-first xs j d h (omega arith) (a j refl))
 
-    -- ANY
-    pub any-first : (xs : List E) → firstWhere p xs < length xs → any p xs ≡ true
-    unfolding firstWhere any
-    any-first [] k = absurd (omega arith)
-    any-first (x ∷ xs) k = go (p x) (any-first xs) k
-      where
-        go : (t : Bool) → (firstWhere p xs < length xs → any p xs ≡ true) → cond t 0 (suc (firstWhere p xs)) < suc (length xs) → (t || any p xs) ≡ true
-        go true ih k = refl
-        go false ih k = ih (omega arith)
-
-    pub none-first : (xs : List E) → length xs ≤ firstWhere p xs → any p xs ≡ false
-    unfolding firstWhere any
-    none-first [] k = refl
-    none-first (x ∷ xs) k = go (p x) (none-first xs) k
-      where
-        go : (t : Bool) → (length xs ≤ firstWhere p xs → any p xs ≡ false) → suc (length xs) ≤ cond t 0 (suc (firstWhere p xs)) → (t || any p xs) ≡ false
-        go true ih k = absurd (omega arith)
-        go false ih k = ih (omega arith)
-
     pub first-lt : (xs : List E) → any p xs ≡ true → firstWhere p xs < length xs
     unfolding firstWhere any
     first-lt [] k = absurd (true≢false (sym k))
@@ -143,16 +124,6 @@ module _ {E : Type 0} where
         go : (t : Bool) → (any p xs ≡ true → firstWhere p xs < length xs) → (t || any p xs) ≡ true → cond t 0 (suc (firstWhere p xs)) < suc (length xs)
         go true ih k = omega arith
         go false ih k = let e = ih k in omega arith
-
-    -- the walk ends in the first list, or goes on in the second
-    pub first-append : (xs ys : List E) → any p xs ≡ true → firstWhere p (xs ++ ys) ≡ firstWhere p xs
-    unfolding firstWhere any
-    first-append [] ys h = absurd (true≢false (sym h))
-    first-append (x ∷ xs) ys h = go (p x) (first-append xs ys) h
-      where
-        go : (t : Bool) → (any p xs ≡ true → firstWhere p (xs ++ ys) ≡ firstWhere p xs) → (t || any p xs) ≡ true → cond t 0 (suc (firstWhere p (xs ++ ys))) ≡ cond t 0 (suc (firstWhere p xs))
-        go true ih h = refl
-        go false ih h = ap suc (ih h)
 
     pub first-append-none : (xs ys : List E) → any p xs ≡ false → firstWhere p (xs ++ ys) ≡ length xs + firstWhere p ys
     unfolding firstWhere any
@@ -173,11 +144,6 @@ module _ {E : Type 0} where
   unfolding firstWhere
   first-map f p q e [] = refl
   first-map f p q e (x ∷ xs) = rw (e x, first-map f p q e xs)
-
-  pub first-same : (p q : E → Bool) → ((x : E) → p x ≡ q x) → (xs : List E) → firstWhere p xs ≡ firstWhere q xs
-  unfolding firstWhere
-  first-same p q e [] = refl
-  first-same p q e (x ∷ xs) = rw (e x, first-same p q e xs)
 
   -- THE LEAD: all of it passes
   pub lead-take : (p : E → Bool) (xs : List E) → Each (λ (x : E). p x ≡ true) (take (lead p xs) xs)
