@@ -8,7 +8,7 @@ use lib.ListN.{length, take, drop, length-append, length-take, length-drop, drop
 use lib.Seq.{length-take-le}
 use Rattle.chars.specs.Lists.{firstOf}
 use Rattle.chars.proofs.Searches.{index-le}
-use Rattle.iri.proofs.Sending.{sent-none, sent-more, sent-text}
+use Rattle.iri.proofs.Sending.{sent-none, sent-more, sent-text, sent-rest}
 use Rattle.model.specs.Sets.{Bytes}
 use Rattle.model.specs.Package.{State}
 use Rattle.model.specs.Texts.{lineFeed}
@@ -19,7 +19,6 @@ use Rattle.lines.proofs.Together.{take-had}
 use Rattle.lines.proofs.Pieces.{gathered-line, gathered-part, shown-end, shown-end-none}
 use Rattle.commands.specs.Running.{LineRun}
 use Rattle.commands.specs.Feeding.{mostShown, rest, Told, Steps, Feeding, Round, Feeds, Ends}
-use Rattle.commands.proofs.SentRests.{sent-rest}
 use Rattle.commands.proofs.ShownSizes.{shown-length}
 
 -- no byte of a line is there yet

@@ -1,5 +1,3 @@
-pub mod FieldSizes
-pub mod SentRests
 pub mod PartLines
 pub mod ListedParts
 pub mod LineRuns

@@ -10,15 +10,16 @@ use lib.ListN.{length, take, drop, length-drop}
 use lib.Seq.{length-take-le}
 use borrow.Author.Tests.{not-true, not-false}
 use Rattle.iri.specs.Scratch.{Sent}
-use Rattle.iri.proofs.Sending.{sent-none, sent-as}
+use Rattle.iri.proofs.Sending.{sent-none, sent-as, sent-rest}
 use Rattle.model.specs.Sets.{Bytes}
 use Rattle.model.specs.Package.{State, content, spelling, mediaTypeOf}
 use Rattle.model.specs.Sheet.{partLine}
+use Rattle.model.proofs.FieldSizes.{prefix-few, type-size}
 use Rattle.store.specs.Layout.{countOf}
 use Rattle.store.specs.Rows.{rowAt, fieldOf}
 use Rattle.store.specs.Packages.{Sound}
 use Rattle.contract.specs.Holds.{Holds}
-use Rattle.contract.proofs.ItemRows.{items-le, item-prefix}
+use Rattle.contract.proofs.ItemRows.{noItem, items-le, item-prefix}
 use Rattle.parts.specs.Runs.{run, Judged}
 use Rattle.parts.specs.Copies.{Measured}
 use Rattle.parts.proofs.OutputCopies.{run-cons}
@@ -26,8 +27,6 @@ use Rattle.types.specs.TypeRows.{Typed}
 use Rattle.lines.specs.Printing.{typeGiven, row}
 use Rattle.lines.proofs.Sends.{part-line, type-given, type-length, row-length}
 use Rattle.commands.specs.Listings.{ShortField, TypeText, PartSent, GroupSent}
-use Rattle.commands.proofs.FieldSizes.{prefix-few, type-size}
-use Rattle.commands.proofs.SentRests.{sent-rest}
 
 -- A FIELD of at most so many bytes
 module _ (b : Bytes) (i j most : ℕ) (s : Bytes) (es : Sound b → i < countOf b → s ≡ fieldOf (rowAt b i) j) where
@@ -68,7 +67,7 @@ module _ (b : Bytes) (f t : ℕ) (l : f < t) where
     part-row S h m =
         let g = run f t (S .items) in
         let p = item-prefix b S h f (omega arith) in
-        let i : length (fieldOf (rowAt b f) 0) ≤ 255 = rw p (prefix-few S (h .good) f (omega arith)) in
+        let i : length (fieldOf (rowAt b f) 0) ≤ 255 = rw p (prefix-few S (h .good) f noItem (omega arith)) in
         let s : spelling g ≡ name = run-spelled S h m ∙ sym (en .is (h .lies .sound) (omega (arith, items-le b S h)) i) in
         part-line S g
         ∙ same-row (length g) (t - f) (length (content g)) k (spelling g) name (mediaTypeOf (spelling g) S) (typeGiven kind)

@@ -14,9 +14,9 @@ use Rattle.model.specs.Calls.{change}
 use Rattle.model.specs.Sheet.{Line, Does, Lists, Unreadable, typeOrDash, partLine, listing, shownBy}
 use Rattle.model.proofs.Lists.{each-map}
 use Rattle.model.proofs.Parts.{Unreserved, parts-few, parts-named}
+use Rattle.model.proofs.FieldSizes.{type-size}
 use Rattle.lines.proofs.Sends.{row-length, answer-length}
 use Rattle.commands.specs.Feeding.{mostShown}
-use Rattle.commands.proofs.FieldSizes.{type-size}
 
 joined-length : (f : List Item → Bytes) (gs : List (List Item)) → Each (λ (g : List Item). length (f g) ≤ 398) gs → length (joined f gs) ≤ 398 * length gs
 unfolding joined

@@ -1,16 +1,17 @@
 -- The laws of what is sent to an output.
 -- Assumes nothing.
-use Prim.Native.Nat.{ℕ, _+_, _<_, _≤_}
+use Prim.Native.Nat.{ℕ, _+_, _-_, _<_, _≤_, min}
 use mathlib.Core.Path.{_≡_, ap, _∙_, sym, refl, subst}
 use mathlib.Core.Bool.{false, true, Bool}
-use mathlib.Core.List.{List, append-assoc, [], _++_, _∷_}
+use mathlib.Core.List.{List, append-assoc, append-nil, [], _++_, _∷_}
 use native.Mathlib.Nat.{zero-add}
 use native.Mathlib.Numerals.{add-one}
 use native.Mathlib.Omega.{arith}
 use lib.Dec.{leb}
-use lib.ListN.{length, set, getD, take, drop, take-append-drop, length-append}
+use lib.ListN.{length, set, getD, take, drop, take-append-drop, length-append, length-drop, drop-of-length-le}
 use lib.Seq.{paste, paste-suc, take-length, length-take-le, take-at, drop-append-add, drop-drop, take-append-seam}
 use borrow.Author.Tests.{lt-leb, le-leb, leb-true, leb-false}
+use Rattle.chars.proofs.Searches.{take-rest}
 use Rattle.iri.specs.Answers.{Outcome, No, ofWritten, written, Text, writtenWhere, Answer}
 use Rattle.iri.specs.Scratch.{Sent, Fitted}
 use Rattle.iri.specs.declared.writing.Written.the-variants.{Refused, Short, Bytes}
@@ -118,6 +119,21 @@ module _ (o : Outcome) (t out out' : List ℕ) (n : ℕ) (e : o ≡ Text t) (f :
 -- the same text in other words
 pub sent-as : (o o' t u : List ℕ) (at n : ℕ) → u ≡ t → Sent o at t n o' → Sent o at u n o'
 sent-as o o' t u at n e s = subst (λ (x : List ℕ). Sent o at x n o') (sym e) s
+
+-- what was sent to the part from k on was sent to place `at`
+pub sent-rest :
+    (out text ys : List ℕ) (at k n : ℕ) → k ≡ min at (length out) → Sent (take (length out - k) (drop k out)) 0 text n ys →
+    Sent out at text (at + n) (take k out ++ (ys ++ drop (length out - k) (drop k out)))
+sent-rest out text ys at k n ek s = record {
+  next-is = omega (arith, s .next-is);
+  fits = λ f.
+      let e : k ≡ at = omega arith in
+      let r : take (length out - k) (drop k out) ≡ drop at out = take-rest out k ∙ ap (λ (i : ℕ). drop i out) e in
+      let d : drop (length out - k) (drop k out) ≡ [] = drop-of-length-le (drop k out) {i = length out - k} (omega (arith, length-drop k out)) in
+      let y : ys ≡ text ++ drop (at + length text) out =
+      s .fits (rw (r, length-drop) (omega arith)) ∙ rw (r, zero-add (length text), drop-drop (length text) at out) in
+      rw (d, append-nil ys, y, e);
+}
 
 -- what was sent to the start of scratch stands there
 pub sent-text : (o o₁ t : List ℕ) (n : ℕ) → Sent o 0 t n o₁ → n ≤ length o → take n o₁ ≡ t

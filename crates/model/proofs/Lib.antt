@@ -9,6 +9,7 @@ pub mod Rows
 pub mod Keys
 pub mod Refusals
 pub mod ItemNames
+pub mod FieldSizes
 pub mod Items
 pub mod Charges
 pub mod Steps

@@ -1,9 +1,9 @@
--- How long the fields of a good package are that a listing shows.
+-- How long the fields of a good package are.
 -- Assumes nothing.
 use Prim.Native.Nat.{ℕ, _+_, _≤_, _<_}
 use mathlib.Core.Path.{_≡_, refl, subst}
 use mathlib.Core.Bool.{Bool, true, false, not, _&&_, cond}
-use mathlib.Core.List.{List, [], _∷_}
+use mathlib.Core.List.{[], _∷_}
 use mathlib.Core.Option.{Option, none, some}
 use native.Mathlib.Omega.{arith}
 use lib.Dec.{leb, eqb}
@@ -15,20 +15,19 @@ use Rattle.chars.proofs.Bools.{and-left, and-right}
 use Rattle.names.specs.Names.{partName, extensionAt}
 use Rattle.names.specs.Types.{mediaType, extension, token}
 use Rattle.iri.proofs.Judging.{name-few}
-use Rattle.model.specs.Sets.{Bytes, Key, sameKey, lookup, Each}
+use Rattle.model.specs.Sets.{Bytes, lookup}
 use Rattle.model.specs.Fields.{when, first, prefixOf, defaultFields, overrideFields}
 use Rattle.model.specs.Package.{Item, Default, Override, State, nameKey, keyOfDefault, keyOfOverride, extensionOf, defaultFor, typeOf, typeOfDefault, mediaTypeOf}
-use Rattle.model.specs.Good.{Good, fieldsOfItem, fieldsOfDefault, fieldsOfOverride}
+use Rattle.model.specs.Good.{Good, fieldsOfDefault, fieldsOfOverride}
 use Rattle.model.proofs.Lists.{each-at}
-use Rattle.model.proofs.Lookups.{none-some, some-eq}
-use Rattle.model.proofs.ItemNames.{accepted-prefix}
-use Rattle.contract.proofs.ItemRows.{noItem}
+use Rattle.model.proofs.Lookups.{none-some, some-eq, lookup-each}
+use Rattle.model.proofs.ItemNames.{prefixes-named}
 
 -- the prefix of a held item
-pub prefix-few : (S : State) → Good S → (i : ℕ) → i < length (S .items) → length (prefixOf (getD (S .items) i noItem .name)) ≤ 255
-prefix-few S g i l =
-    let x = getD (S .items) i noItem in
-    name-few (prefixOf (x .name)) (accepted-prefix (x .name) (each-at (λ (y : Item). fieldsOfItem y ≡ 0) (S .items) i noItem l (g .items .fielded)) .0)
+pub prefix-few : (S : State) → Good S → (i : ℕ) (d : Item) → i < length (S .items) → length (prefixOf (getD (S .items) i d .name)) ≤ 255
+prefix-few S g i d l =
+    let x = getD (S .items) i d in
+    name-few (prefixOf (x .name)) (each-at (λ (y : Item). partName (prefixOf (y .name)) ≡ true) (S .items) i d l (prefixes-named S g))
 
 -- a media type
 abbrev Sized : Bytes → Type 0
@@ -49,16 +48,6 @@ second-field y true n l e = refl
 second-field true false n l e = absurd (omega arith)
 second-field false false n l e = absurd (omega (arith, rw (ne-eqb n 0 (λ z. omega arith)) at e))
 
--- what is found is one of the entries
-lookup-each : {E : Type 0} (P : E → Type 0) (key : E → Key) (k : Key) (xs : List E) (x : E) → Each P xs → lookup key k xs ≡ some x → P x
-unfolding lookup
-lookup-each P key k [] x h e = absurd (none-some x e)
-lookup-each P key k (y ∷ ys) x h e = go (sameKey k (key y)) (λ f. lookup-each P key k ys x (h .1) f) e
-  where
-    go : (t : Bool) → (lookup key k ys ≡ some x → P x) → cond t (some y) (lookup key k ys) ≡ some x → P x
-    go true ih e = subst P (some-eq y x e) (h .0)
-    go false ih e = ih e
-
 default-size : (d : Default) → fieldsOfDefault d ≡ 0 → Sized (d .type)
 unfolding defaultFields
 default-size d e = media-size (d .type) (second-field (extension (d .extension)) (mediaType (d .type)) 7 (omega arith) e)
@@ -78,10 +67,10 @@ type-size S g name t = by-override (lookup keyOfOverride (nameKey name) (S .over
       where
         go : (z : Bool) → cond z none (lookup keyOfDefault (nameKey (extensionOf name)) (S .defaults)) ≡ some d → fieldsOfDefault d ≡ 0
         go true e = absurd (none-some d e)
-        go false e = lookup-each (λ (x : Default). fieldsOfDefault x ≡ 0) keyOfDefault (nameKey (extensionOf name)) (S .defaults) d (g .defaults .fielded) e
+        go false e = lookup-each keyOfDefault (λ (x : Default). fieldsOfDefault x ≡ 0) (nameKey (extensionOf name)) (S .defaults) d (g .defaults .fielded) e
 
     by-override : (o : Option Override) → lookup keyOfOverride (nameKey name) (S .overrides) ≡ o → typeOf o (defaultFor name (S .defaults)) ≡ some t → Sized t
     by-override none e f = by-default (defaultFor name (S .defaults)) refl f
     by-override (some o) e f =
         subst Sized (some-eq (o .type) t f)
-        (override-size o (lookup-each (λ (x : Override). fieldsOfOverride x ≡ 0) keyOfOverride (nameKey name) (S .overrides) o (g .overrides .fielded) e))
+        (override-size o (lookup-each keyOfOverride (λ (x : Override). fieldsOfOverride x ≡ 0) (nameKey name) (S .overrides) o (g .overrides .fielded) e))
