@@ -12,8 +12,8 @@ use Rattle.iri.specs.Answers.{Answer, answer}
 use Rattle.model.specs.Package.{State, empty}
 use Rattle.model.specs.Calls.{Look, Change, Print, Call, Start, Looks, Changes, Prints, Printed, Text, Refused, done, refused, pick, changed, startRefusal, step, look, change, changeRefusal, changeMade, printed, filled, valueCount}
 use Rattle.model.proofs.Steps.{empty-good, change-good}
-use Rattle.store.specs.Packages.{isPackage}
-use Rattle.store.proofs.PackageTest.{sound-package}
+use Rattle.store.specs.Packages.{Shape, isPackage}
+use Rattle.store.proofs.PackageTest.{sound-package, package-shape}
 use Rattle.contract.specs.Holds.{Lies, Holds}
 use Rattle.contract.specs.Ran.{Ran, starts, noPackage, Begun}
 
@@ -115,3 +115,6 @@ module _ (p : List ℕ) (x : Bool) (ex : x ≡ isPackage p) where
 
   pub opened : not x ≡ false → isPackage p ≡ true
   opened h = sym ex ∙ not-false x h
+
+  pub opened-shape : not x ≡ false → Shape p
+  opened-shape h = package-shape p (opened h)

@@ -1,10 +1,10 @@
 -- Put and drop of an item: each way out.
 -- Assumes nothing.
-use Prim.Native.Nat.{ℕ, suc, _+_, _-_, _^_, _≤_, _<_}
+use Prim.Native.Nat.{ℕ, _+_, _-_, _^_, _≤_, _<_}
 use mathlib.Core.Path.{_≡_, refl, ap, ap₂, sym, _∙_, subst}
-use mathlib.Core.Bool.{Bool, true, false, not, _&&_, cond}
-use mathlib.Core.List.{List, [], _∷_, _++_, map}
-use mathlib.Core.Option.{Option, none, some}
+use mathlib.Core.Bool.{Bool, true, false, not, _&&_}
+use mathlib.Core.List.{[], _∷_, _++_, map}
+use mathlib.Core.Option.{none, some}
 use native.Mathlib.Nat.{zero-add}
 use native.Mathlib.Omega.{arith}
 use lib.Dec.{leb, eqb}
@@ -16,8 +16,8 @@ use Rattle.chars.proofs.Bools.{and-left}
 use Rattle.chars.proofs.Searches.{take-rest}
 use Rattle.names.specs.Names.{segment, partName}
 use Rattle.model.specs.Sets.{Bytes, insert, remove, held, lookup}
-use Rattle.model.specs.Places.{bound, place, spot}
-use Rattle.model.specs.Fields.{when, first, prefixOf, suffixOf, itemField}
+use Rattle.model.specs.Places.{place, spot}
+use Rattle.model.specs.Fields.{first, prefixOf, suffixOf, itemField}
 use Rattle.model.specs.Package.{State, Item, itemKey, keyOfItem, itemAt}
 use Rattle.model.specs.Calls.{Changes, PutItem, DropItem, done, refused, changed, change, withItems, clash, putItemRefusal, dropItemRefusal}
 use Rattle.model.proofs.Rows.{rows-insert, rows-remove}
@@ -26,22 +26,20 @@ use Rattle.model.proofs.Refusals.{all-none, unmet}
 use Rattle.model.proofs.Sets.{absent}
 use Rattle.model.proofs.Places.{bound-place}
 use Rattle.store.specs.Layout.{countOf}
-use Rattle.store.specs.Rows.{Row, makeRow, rowsOf, insertAt, removeAt}
-use Rattle.store.specs.Packages.{isPackage, Shape, Sound, Room, Inserted, Removed}
-use Rattle.store.proofs.PackageTest.{package-shape}
+use Rattle.store.specs.Rows.{makeRow, insertAt, removeAt}
+use Rattle.store.specs.Packages.{isPackage, Sound, Room, Inserted, Removed}
 use Rattle.contract.specs.Rows.{tagOf, itemRow, otherRows, rowsFor, keyIn}
 use Rattle.contract.specs.Holds.{Lies, Holds}
 use Rattle.contract.specs.Ran.{Ran}
 use Rattle.contract.specs.Searches.{Bounded}
 use Rattle.contract.proofs.RowKeys.{tag-small}
-use Rattle.contract.proofs.Rans.{changes-foreign, change-refused, change-made, changed-refused, changed-made}
+use Rattle.contract.proofs.Rans.{changes-foreign, change-refused, change-made, changed-refused, changed-made, closed, opened}
 use Rattle.items.specs.Wants.{wanted, Located}
 use Rattle.items.specs.Clashes.{Cleared}
 use Rattle.items.specs.declared.wanted.Wanted.{Wanted}
 use Rattle.items.specs.declared.wanted.Wanted.the-variants.{Named, Refused}
 use Rattle.items.proofs.Naming.{wanted-named, wanted-refused, prefix-take, prefix-in}
 use Rattle.items.proofs.Locating.{bound-of}
-use Rattle.items.proofs.Looking.{closed, opened}
 
 -- DROP
 drop-named : (S : State) (s : Bytes) (k : ℕ) → itemField s ≡ k → (k ≡ 0 → ⊥) → dropItemRefusal S s ≡ k
@@ -118,24 +116,21 @@ part-some s e =
 -- EACH WAY OUT; x is the test of the buffer
 module _ (p s : Bytes) (x : Bool) (ex : x ≡ isPackage p) where
   pub drop-foreign : not x ≡ true → Ran (Changes (DropItem s)) p (refused 1) p
-  drop-foreign h = changes-foreign p (closed p s x ex h) (DropItem s)
+  drop-foreign h = changes-foreign p (closed p x ex h) (DropItem s)
 
   pub put-foreign : (bytes : Bytes) → not x ≡ true → Ran (Changes (PutItem s bytes)) p (refused 1) p
-  put-foreign bytes h = changes-foreign p (closed p s x ex h) (PutItem s bytes)
-
-  pub opened-shape : not x ≡ false → Shape p
-  opened-shape h = package-shape p (opened p s x ex h)
+  put-foreign bytes h = changes-foreign p (closed p x ex h) (PutItem s bytes)
 
   module _ (hx : not x ≡ false) (w : Wanted) (ew : w ≡ wanted (itemField s) s) where
     pub drop-refused : (k : ℕ) → w ≡ Refused k → Ran (Changes (DropItem s)) p (refused k) p
     drop-refused k e =
         let z = wanted-refused (itemField s) s w ew k e in
-        change-refused p (opened p s x ex hx) (DropItem s) k (λ S h. drop-no S s k (drop-named S s k (z .0) (z .1)) (z .1))
+        change-refused p (opened p x ex hx) (DropItem s) k (λ S h. drop-no S s k (drop-named S s k (z .0) (z .1)) (z .1))
 
     pub put-refused : (bytes : Bytes) (k : ℕ) → w ≡ Refused k → Ran (Changes (PutItem s bytes)) p (refused k) p
     put-refused bytes k e =
         let z = wanted-refused (itemField s) s w ew k e in
-        change-refused p (opened p s x ex hx) (PutItem s bytes) k (λ S h. put-no S s bytes k (put-named S s bytes k (z .0) (z .1)) (z .1))
+        change-refused p (opened p x ex hx) (PutItem s bytes) k (λ S h. put-no S s bytes k (put-named S s bytes k (z .0) (z .1)) (z .1))
 
     module _ (n t : ℕ) (en : w ≡ Named n t) where
       pub named-is : (n ≡ length (prefixOf s)) × (t ≡ tagOf (suffixOf s)) × (itemField s ≡ 0)
@@ -149,10 +144,10 @@ module _ (p s : Bytes) (x : Bool) (ex : x ≡ isPackage p) where
 
       module _ (r m : ℕ) (er : Located p s r) (em : m ≡ countOf p) where
         pub drop-missing : m ≤ r → Ran (Changes (DropItem s)) p (refused 13) p
-        drop-missing l = change-refused p (opened p s x ex hx) (DropItem s) 13 (λ S h. drop-no S s 13 (drop-13 S s (named-is .2) (er .is S h .missing (omega arith))) (λ z. omega arith))
+        drop-missing l = change-refused p (opened p x ex hx) (DropItem s) 13 (λ S h. drop-no S s 13 (drop-13 S s (named-is .2) (er .is S h .missing (omega arith))) (λ z. omega arith))
 
         pub drop-done : (q : Bytes) → length q ≡ length p → r < m → (Sound p → Removed p q r) → Ran (Changes (DropItem s)) p done q
-        drop-done q lq l rm = change-made p (opened p s x ex hx) (DropItem s) q lq (λ S h. out S h)
+        drop-done q lq l rm = change-made p (opened p x ex hx) (DropItem s) q lq (λ S h. out S h)
           where
             out : (S : State) → Holds p S → (change S (DropItem s) .0 ≡ done) × Lies q (change S (DropItem s) .1)
             out S h =
@@ -164,7 +159,7 @@ module _ (p s : Bytes) (x : Bool) (ex : x ≡ isPackage p) where
 
       module _ (bytes : Bytes) (r k : ℕ) (eb : Bounded p (keyIn 0 (take n s) t []) r) (ek : Cleared p s (length bytes) r k) where
         pub put-clash : (k ≡ 0 → ⊥) → Ran (Changes (PutItem s bytes)) p (refused k) p
-        put-clash z = change-refused p (opened p s x ex hx) (PutItem s bytes) k (λ S h. put-no S s bytes k (ek .is S bytes h refl) z)
+        put-clash z = change-refused p (opened p x ex hx) (PutItem s bytes) k (λ S h. put-no S s bytes k (ek .is S bytes h refl) z)
 
         pub put-room : k ≡ 0 → Room p r (length (take n s) + (length (take (length s - n) (drop n s)) + (length bytes + 0)))
         put-room z = subst (Room p r) sum (ek .room z)
@@ -173,7 +168,7 @@ module _ (p s : Bytes) (x : Bool) (ex : x ≡ isPackage p) where
             sum = rw (take-rest s n, length-take, length-drop) (omega (arith, prefix-in s n (named-is .0)))
 
         pub put-done : (q : Bytes) → length q ≡ length p → k ≡ 0 → (Sound p → Inserted p q r (makeRow t (take n s) (take (length s - n) (drop n s)) bytes [])) → Ran (Changes (PutItem s bytes)) p done q
-        put-done q lq z ins = change-made p (opened p s x ex hx) (PutItem s bytes) q lq (λ S h. out S h)
+        put-done q lq z ins = change-made p (opened p x ex hx) (PutItem s bytes) q lq (λ S h. out S h)
           where
             out : (S : State) → Holds p S → (change S (PutItem s bytes) .0 ≡ done) × Lies q (change S (PutItem s bytes) .1)
             out S h =

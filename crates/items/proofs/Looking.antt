@@ -1,13 +1,13 @@
 -- Find and view: each way out.
 -- Assumes nothing.
 use Prim.Native.Nat.{ℕ, _≤_, _<_}
-use mathlib.Core.Path.{_≡_, refl, ap, sym, _∙_}
-use mathlib.Core.Bool.{Bool, true, false, not, cond}
-use mathlib.Core.List.{List, [], _∷_}
-use mathlib.Core.Option.{Option, none, some}
+use mathlib.Core.Path.{_≡_, refl, _∙_}
+use mathlib.Core.Bool.{Bool, true, false, not}
+use mathlib.Core.List.{[], _∷_}
+use mathlib.Core.Option.{none, some}
 use native.Mathlib.Omega.{arith}
 use lib.ListN.{length, getD}
-use borrow.Author.Tests.{not-true, not-false, ne-eqb}
+use borrow.Author.Tests.{ne-eqb}
 use Rattle.iri.specs.Answers.{answer}
 use Rattle.model.specs.Sets.{Bytes}
 use Rattle.model.specs.Fields.{first, prefixOf, suffixOf, askedField}
@@ -20,7 +20,7 @@ use Rattle.contract.specs.Rows.{tagOf}
 use Rattle.contract.specs.Answers.{ofView}
 use Rattle.contract.specs.Holds.{Holds}
 use Rattle.contract.specs.Ran.{Ran}
-use Rattle.contract.proofs.Rans.{looks-foreign, looked}
+use Rattle.contract.proofs.Rans.{looks-foreign, looked, closed, opened}
 use Rattle.contract.proofs.ItemRows.{noItem, item-bytes}
 use Rattle.items.specs.Wants.{wanted, Located}
 use Rattle.items.specs.declared.wanted.Wanted.{Wanted}
@@ -61,28 +61,22 @@ asked-is s w ew n t en = let z = wanted-named (askedField s) s w ew n t en in (z
 
 -- EACH WAY OUT; x is the test of the buffer
 module _ (p s : Bytes) (x : Bool) (ex : x ≡ isPackage p) where
-  pub closed : not x ≡ true → isPackage p ≡ false
-  closed h = sym ex ∙ not-true x h
-
-  pub opened : not x ≡ false → isPackage p ≡ true
-  opened h = sym ex ∙ not-false x h
-
   pub find-foreign : not x ≡ true → Ran (Looks (Find s)) p (refused 1) p
-  find-foreign h = looks-foreign p (closed h) (Find s) refl
+  find-foreign h = looks-foreign p (closed p x ex h) (Find s) refl
 
   pub view-foreign : not x ≡ true → Ran (Looks (View s)) p (ofView []) p
-  view-foreign h = looks-foreign p (closed h) (View s) refl
+  view-foreign h = looks-foreign p (closed p x ex h) (View s) refl
 
   module _ (hx : not x ≡ false) (w : Wanted) (ew : w ≡ wanted (askedField s) s) where
     pub find-refused : (k : ℕ) → w ≡ Refused k → Ran (Looks (Find s)) p (refused k) p
     find-refused k e =
         let z = wanted-refused (askedField s) s w ew k e in
-        looked p (opened hx) (Find s) (refused k) (λ _. refl) (λ S h. find-no S s k (asked-first S s k (z .0) (z .1)) (z .1))
+        looked p (opened p x ex hx) (Find s) (refused k) (λ _. refl) (λ S h. find-no S s k (asked-first S s k (z .0) (z .1)) (z .1))
 
     pub view-refused : (k : ℕ) → w ≡ Refused k → Ran (Looks (View s)) p (ofView []) p
     view-refused k e =
         let z = wanted-refused (askedField s) s w ew k e in
-        looked p (opened hx) (View s) (ofView []) (λ _. refl) (λ S h. view-no S s k (asked-first S s k (z .0) (z .1)) (z .1))
+        looked p (opened p x ex hx) (View s) (ofView []) (λ _. refl) (λ S h. view-no S s k (asked-first S s k (z .0) (z .1)) (z .1))
 
     module _ (n t : ℕ) (en : w ≡ Named n t) (r m : ℕ) (er : Located p s r) (em : m ≡ countOf p) where
       accepted : askedField s ≡ 0
@@ -95,10 +89,10 @@ module _ (p s : Bytes) (x : Bool) (ex : x ≡ isPackage p) where
       thirteen e = omega arith
 
       pub find-missing : m ≤ r → Ran (Looks (Find s)) p (refused 13) p
-      find-missing l = looked p (opened hx) (Find s) (refused 13) (λ _. refl) (λ S h. find-no S s 13 (missed S h l) thirteen)
+      find-missing l = looked p (opened p x ex hx) (Find s) (refused 13) (λ _. refl) (λ S h. find-no S s 13 (missed S h l) thirteen)
 
       pub view-missing : m ≤ r → Ran (Looks (View s)) p (ofView []) p
-      view-missing l = looked p (opened hx) (View s) (ofView []) (λ _. refl) (λ S h. view-no S s 13 (missed S h l) thirteen)
+      view-missing l = looked p (opened p x ex hx) (View s) (ofView []) (λ _. refl) (λ S h. view-no S s 13 (missed S h l) thirteen)
 
       module _ (l : r < m) (f : Bytes) (ef : Sound p → r < countOf p → f ≡ fieldOf (rowAt p r) 2) where
         there : (S : State) → Holds p S → askedRefusal S s ≡ 0
@@ -108,9 +102,9 @@ module _ (p s : Bytes) (x : Bool) (ex : x ≡ isPackage p) where
         bytes-are S h = ef (h .lies .sound) (omega arith) ∙ item-bytes p S h r (er .is S h .within (omega arith))
 
         pub find-found : Ran (Looks (Find s)) p (answer 0 (length f ∷ []) []) p
-        find-found = looked p (opened hx) (Find s) (answer 0 (length f ∷ []) []) (λ _. refl)
+        find-found = looked p (opened p x ex hx) (Find s) (answer 0 (length f ∷ []) []) (λ _. refl)
             (λ S h. find-yes S s (getD (S .items) r noItem) f (there S h) (er .is S h .found (omega arith)) (bytes-are S h))
 
         pub view-found : Ran (Looks (View s)) p (ofView f) p
-        view-found = looked p (opened hx) (View s) (ofView f) (λ z. absurd (z refl))
+        view-found = looked p (opened p x ex hx) (View s) (ofView f) (λ z. absurd (z refl))
             (λ S h. view-yes S s (getD (S .items) r noItem) f (there S h) (er .is S h .found (omega arith)) (bytes-are S h))

@@ -1,32 +1,19 @@
 -- The ways out of a call that writes one text: one law for each, for every such call.
 -- Assumes nothing.
 use Prim.Native.Nat.{ℕ}
-use mathlib.Core.Path.{_≡_, refl, ap, sym, _∙_}
-use mathlib.Core.Bool.{Bool, true, false, not}
+use mathlib.Core.Path.{_≡_, refl, ap, _∙_}
+use mathlib.Core.Bool.{Bool, true, false}
 use mathlib.Core.List.{List, [], _∷_, _++_}
 use lib.Dec.{leb}
 use lib.ListN.{length, drop}
-use borrow.Author.Tests.{not-true, not-false}
 use Rattle.iri.specs.Answers.{Answer, answer, written, writtenWhere}
 use Rattle.iri.specs.Answers as iri
 use Rattle.model.specs.Package.{State}
 use Rattle.model.specs.Calls.{Print, Prints, Text, Refused, printed, filled, choose, valueCount}
-use Rattle.store.specs.Packages.{Shape, isPackage}
-use Rattle.store.proofs.PackageTest.{package-shape}
+use Rattle.store.specs.Packages.{isPackage}
 use Rattle.contract.specs.Holds.{Holds}
 use Rattle.contract.specs.Ran.{Ran}
 use Rattle.contract.proofs.Rans.{wrote}
-
--- z is the answer of the test of a package
-module _ (b : List ℕ) (z : Bool) (e : z ≡ isPackage b) where
-  pub no-package : not z ≡ true → isPackage b ≡ false
-  no-package h = sym e ∙ not-true z h
-
-  pub opened : not z ≡ false → isPackage b ≡ true
-  opened h = sym e ∙ not-false z h
-
-  pub opened-shape : not z ≡ false → Shape b
-  opened-shape h = package-shape b (opened h)
 
 -- a text that is written, or too long
 text-kept : (s out : List ℕ) (a : Answer) → a ≡ written (iri.Text s) out → (a .number ≡ 0 → ⊥) → a .output ≡ out

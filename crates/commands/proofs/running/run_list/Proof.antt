@@ -1,4 +1,4 @@
-use Rattle.parts.proofs.TextAnswers.{opened-shape}
+use Rattle.contract.proofs.Rans.{opened-shape}
 use Rattle.commands.proofs.LineRuns.{listed-foreign}
 use borrow.Author.Needs.{needs}
 use Rattle.commands.proofs.running.run_list.Statement.{statement}

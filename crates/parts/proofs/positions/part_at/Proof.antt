@@ -1,7 +1,6 @@
 use native.Mathlib.Omega.{arith}
 use Rattle.model.specs.Calls.{PartAt}
-use Rattle.contract.proofs.Rans.{prints-foreign}
-use Rattle.parts.proofs.TextAnswers.{no-package, opened, opened-shape}
+use Rattle.contract.proofs.Rans.{prints-foreign, closed, opened, opened-shape}
 use Rattle.parts.proofs.PartCalls.{position-missing, position-written}
 use borrow.Author.Needs.{needs}
 use Rattle.parts.proofs.positions.part_at.Statement.{statement}
@@ -13,7 +12,7 @@ is-package-requires c κs = search needs
 returns : tie.Need-returns
 returns c =
     let a = c .before .before .before .before .args in
-    prints-foreign _ (no-package _ _ (c .before .is-package .ensures) (c .if1 .taken)) (PartAt (a .position)) (a .out .now)
+    prints-foreign _ (closed _ _ (c .before .is-package .ensures) (c .if1 .taken)) (PartAt (a .position)) (a .out .now)
 
 item-count-requires : tie.Need-item-count-requires
 item-count-requires c κs = opened-shape _ _ (c .before .is-package .ensures) (c .if1 .left)

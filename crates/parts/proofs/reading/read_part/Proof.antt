@@ -1,6 +1,5 @@
 use Rattle.model.specs.Calls.{ReadPart}
-use Rattle.contract.proofs.Rans.{prints-foreign}
-use Rattle.parts.proofs.TextAnswers.{no-package, opened, opened-shape}
+use Rattle.contract.proofs.Rans.{prints-foreign, closed, opened, opened-shape}
 use Rattle.parts.proofs.PartCalls.{read-misnamed, read-missing, read-done}
 use borrow.Author.Needs.{needs}
 use Rattle.parts.proofs.reading.read_part.Statement.{statement}
@@ -12,7 +11,7 @@ is-package-requires c κs = search needs
 returns : tie.Need-returns
 returns c =
     let a = c .before .before .before .before .before .args in
-    prints-foreign _ (no-package _ _ (c .before .is-package .ensures) (c .if1 .taken)) (ReadPart (a .name .now) (a .offset)) (a .out .now)
+    prints-foreign _ (closed _ _ (c .before .is-package .ensures) (c .if1 .taken)) (ReadPart (a .name .now) (a .offset)) (a .out .now)
 
 is-part-name-requires : tie.Need-is-part-name-requires
 is-part-name-requires c κs = search needs

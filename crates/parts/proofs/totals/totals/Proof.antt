@@ -1,8 +1,7 @@
 use native.Mathlib.Omega.{arith}
 use mathlib.Core.Path.{refl}
 use Rattle.model.specs.Calls.{Totals}
-use Rattle.contract.proofs.Rans.{looks-foreign}
-use Rattle.parts.proofs.TextAnswers.{no-package, opened, opened-shape}
+use Rattle.contract.proofs.Rans.{looks-foreign, closed, opened, opened-shape}
 use Rattle.parts.proofs.PartCalls.{totals-done}
 use borrow.Author.Needs.{needs}
 use Rattle.parts.proofs.totals.totals.Statement.{statement}
@@ -12,7 +11,7 @@ is-package-requires : tie.Need-is-package-requires
 is-package-requires c κs = search needs
 
 returns : tie.Need-returns
-returns c = looks-foreign _ (no-package _ _ (c .before .is-package .ensures) (c .if1 .taken)) Totals refl
+returns c = looks-foreign _ (closed _ _ (c .before .is-package .ensures) (c .if1 .taken)) Totals refl
 
 item-count-requires : tie.Need-item-count-requires
 item-count-requires c κs = opened-shape _ _ (c .before .is-package .ensures) (c .if1 .left)

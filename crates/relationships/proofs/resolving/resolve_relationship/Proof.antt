@@ -1,7 +1,6 @@
 use native.Mathlib.Omega.{arith}
 use Rattle.model.specs.Calls.{ResolveRelationship}
-use Rattle.contract.proofs.Rans.{prints-foreign}
-use Rattle.parts.proofs.TextAnswers.{no-package, opened, opened-shape}
+use Rattle.contract.proofs.Rans.{prints-foreign, closed, opened, opened-shape}
 use Rattle.relationships.proofs.TargetResolutions.{resolve-refused, package-size, resolve-missing, resolve-found}
 use borrow.Author.Needs.{needs}
 use Rattle.relationships.proofs.resolving.resolve_relationship.Statement.{statement}
@@ -11,7 +10,7 @@ is-package-requires : tie.Need-is-package-requires
 is-package-requires c κs = search needs
 
 returns : tie.Need-returns
-returns c = prints-foreign _ (no-package _ _ (c .before .is-package .ensures) (c .if1 .taken)) (ResolveRelationship (c .before .before .before .before .before .before .before .args .source .now) (c .before .before .before .before .before .before .before .args .id .now) (c .before .before .before .before .before .before .before .args .base .now)) (c .before .before .before .before .before .before .before .args .out .now)
+returns c = prints-foreign _ (closed _ _ (c .before .is-package .ensures) (c .if1 .taken)) (ResolveRelationship (c .before .before .before .before .before .before .before .args .source .now) (c .before .before .before .before .before .before .before .args .id .now) (c .before .before .before .before .before .before .before .args .base .now)) (c .before .before .before .before .before .before .before .args .out .now)
 
 asked-refusal-requires : tie.Need-asked-refusal-requires
 asked-refusal-requires c κs = search needs

@@ -1,8 +1,7 @@
 use native.Mathlib.Omega.{arith}
 use denote.Ref.{now}
 use Rattle.model.specs.Calls.{WriteRelationships}
-use Rattle.contract.proofs.Rans.{prints-foreign}
-use Rattle.parts.proofs.TextAnswers.{no-package, opened, opened-shape}
+use Rattle.contract.proofs.Rans.{prints-foreign, closed, opened, opened-shape}
 use Rattle.streams.proofs.StreamCalls.{relationships-refused, relationships-written}
 use borrow.Author.Needs.{needs}
 use Rattle.streams.proofs.calls.write_relationships.Statement.{statement}
@@ -12,7 +11,7 @@ is-package-requires : tie.Need-is-package-requires
 is-package-requires c κs = search needs
 
 returns : tie.Need-returns
-returns c = prints-foreign _ (no-package _ _ (c .before .is-package .ensures) (c .if1 .taken)) (WriteRelationships (now (c .before .before .before .before .before .args .source))) (now (c .before .before .before .before .before .args .out))
+returns c = prints-foreign _ (closed _ _ (c .before .is-package .ensures) (c .if1 .taken)) (WriteRelationships (now (c .before .before .before .before .before .args .source))) (now (c .before .before .before .before .before .args .out))
 
 source-refusal-requires : tie.Need-source-refusal-requires
 source-refusal-requires c κs = search needs

@@ -1,6 +1,5 @@
 use Rattle.model.specs.Calls.{MediaType}
-use Rattle.contract.proofs.Rans.{prints-foreign}
-use Rattle.parts.proofs.TextAnswers.{no-package, opened, opened-shape}
+use Rattle.contract.proofs.Rans.{prints-foreign, closed, opened, opened-shape}
 use Rattle.types.proofs.TypeLookups.{type-misnamed, type-missing, type-none, type-written}
 use borrow.Author.Needs.{needs}
 use Rattle.types.proofs.media.media_type.Statement.{statement}
@@ -10,7 +9,7 @@ is-package-requires : tie.Need-is-package-requires
 is-package-requires c κs = search needs
 
 returns : tie.Need-returns
-returns c = prints-foreign _ (no-package _ _ (c .before .is-package .ensures) (c .if1 .taken)) (MediaType (c .before .before .before .before .before .args .name .now)) (c .before .before .before .before .before .args .out .now)
+returns c = prints-foreign _ (closed _ _ (c .before .is-package .ensures) (c .if1 .taken)) (MediaType (c .before .before .before .before .before .args .name .now)) (c .before .before .before .before .before .args .out .now)
 
 is-part-name-requires : tie.Need-is-part-name-requires
 is-part-name-requires c κs = search needs
