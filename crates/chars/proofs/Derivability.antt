@@ -101,7 +101,7 @@ pub derivable-is : (a b : List ℕ) → length b + 1 < length a → derivable a 
 unfolding derivable begins equivalent
 derivable-is a b h =
     let n : length (fold (take (length b) a)) ≡ length (fold b) =
-        length-map (take (length b) a) lower ∙ length-take-le (length b) a (omega arith) ∙ sym (length-map b lower) in
+    length-map (take (length b) a) lower ∙ length-take-le (length b) a (omega arith) ∙ sym (length-map b lower) in
     rw (lt-ltb (length b + 1) (length a) h, stem-taken a b (omega arith), same-snoc (fold (take (length b) a)) (fold b) (lower (getD a (length b) 0)) slash n, lower-slash) (and-right-true _)
 
 pub not-derivable : (a b : List ℕ) → length a ≤ length b + 1 → derivable a b ≡ false

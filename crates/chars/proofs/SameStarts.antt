@@ -20,15 +20,16 @@ module _ (s : List ℕ) where
   pub take-eight : (i : ℕ) → i + 8 ≤ length s → take 8 (drop i s)
       ≡ getD s i 0 ∷ getD s (i + 1) 0 ∷ getD s (i + 2) 0 ∷ getD s (i + 3) 0 ∷ getD s (i + 4) 0 ∷ getD s (i + 5) 0 ∷ getD s (i + 6) 0 ∷ getD s (i + 7) 0 ∷ []
   take-eight i h =
-      rw
-      (take-drop-suc 7 i (i + 1) (omega arith) (omega arith),
-      take-drop-suc 6 (i + 1) (i + 2) (omega arith) (omega arith),
-      take-drop-suc 5 (i + 2) (i + 3) (omega arith) (omega arith),
-      take-drop-suc 4 (i + 3) (i + 4) (omega arith) (omega arith),
-      take-drop-suc 3 (i + 4) (i + 5) (omega arith) (omega arith),
-      take-drop-suc 2 (i + 5) (i + 6) (omega arith) (omega arith),
-      take-drop-suc 1 (i + 6) (i + 7) (omega arith) (omega arith),
-      take-drop-suc 0 (i + 7) (i + 8) (omega arith) (omega arith))
+      rw (
+        take-drop-suc 7 i (i + 1) (omega arith) (omega arith),
+        take-drop-suc 6 (i + 1) (i + 2) (omega arith) (omega arith),
+        take-drop-suc 5 (i + 2) (i + 3) (omega arith) (omega arith),
+        take-drop-suc 4 (i + 3) (i + 4) (omega arith) (omega arith),
+        take-drop-suc 3 (i + 4) (i + 5) (omega arith) (omega arith),
+        take-drop-suc 2 (i + 5) (i + 6) (omega arith) (omega arith),
+        take-drop-suc 1 (i + 6) (i + 7) (omega arith) (omega arith),
+        take-drop-suc 0 (i + 7) (i + 8) (omega arith) (omega arith),
+      )
 
 all-eight : (p q r s t u v w : Bool) → (((((((p && q) && r) && s) && t) && u) && v) && w) ≡ (p && (q && (r && (s && (t && (u && (v && (w && true))))))))
 all-eight false q r s t u v w = refl

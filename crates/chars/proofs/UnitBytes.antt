@@ -87,8 +87,7 @@ module _ (g : Grammar) (q : ℕ → Bool) (covers : Covers g q) where
       let w = lead4 a && continuation b in
       let t = w && continuation c in
       let f : t ≡ true = and-left t (continuation d) (and-left (t && continuation d) (leb 0x10000 v) (and-left (t && continuation d && leb 0x10000 v) (ucschar v) e)) in
-      let k : w ≡ true = and-left w (continuation c) f in
-      (
+      let k : w ≡ true = and-left w (continuation c) f in (
         covers .highs a (at-least 0xF0 0xF7 a (omega arith) (and-left (lead4 a) (continuation b) k)),
         covers .highs b (high b (and-right (lead4 a) (continuation b) k)),
         covers .highs c (high c (and-right w (continuation c) f)),

@@ -55,9 +55,9 @@ module _ (b : List ℕ) (i set : ℕ) (p : Bytes) (t : ℕ) (id : Bytes) (u own 
   unfolding fieldOf foldedOrder keyOrder
   stands-same h k f ef o eo′ g eg r er = record {
     is = λ s l.
-      let n : own ≡ set = omega arith in
-      let e : u ≡ tagAt b i = eu (s .shape) l in
-      rw (own-is s l, n, set-same set (fold (rowAt b i .f0)) (fold p) (second set (tagAt b i) (rowAt b i .f1)) (second set t id), er, eo′, ef s l, eg s l, e);
+        let n : own ≡ set = omega arith in
+        let e : u ≡ tagAt b i = eu (s .shape) l in
+        rw (own-is s l, n, set-same set (fold (rowAt b i .f0)) (fold p) (second set (tagAt b i) (rowAt b i .f1)) (second set t id), er, eo′, ef s l, eg s l, e);
   }
 
   -- decided by the first text
@@ -172,7 +172,8 @@ module _ (b : List ℕ) (k : Key) where
       high = h .high;
       is = λ q. (
         let f = failing-lt-first (λ (x : Row). not (before (rowKey x) k)) (rowsOf b) m noRow (not-before-monotone rowKey k (rowsOf b) (q .sorted)) here (test (q .sound) ∙ ap not e) in omega (arith, f),
-        h .is q .1);
+        h .is q .1,
+      );
     }
 
     pub halved-left : z ≡ false → Halved b k lo m

@@ -176,11 +176,12 @@ module _ (p s : Bytes) (x : Bool) (ex : x ≡ isPackage p) where
                 let e = put-yes S s bytes g in
                 let o = ins (h .lies .sound) in
                 let pl : r ≡ place keyOfItem (itemKey s) (S .items) =
-                    bound-of p s n t (named-is .0) (named-is .1) r (countOf p) refl eb S h ∙ bound-place keyOfItem (itemKey s) (S .items) (absent keyOfItem (itemKey s) (S .items) (free-key S s bytes g)) in
-                rw e
-                (refl,
-                record {
-                  sound = o .sound;
-                  rows = o .rows ∙ ap₂ (insertAt r) (made-row s bytes n t (named-is .0) (named-is .1)) (h .lies .rows) ∙ inserted-rows S s bytes r pl;
-                  capacity = o .cap ∙ h .lies .capacity;
-                })
+                bound-of p s n t (named-is .0) (named-is .1) r (countOf p) refl eb S h ∙ bound-place keyOfItem (itemKey s) (S .items) (absent keyOfItem (itemKey s) (S .items) (free-key S s bytes g)) in
+                rw e (
+                  refl,
+                  record {
+                    sound = o .sound;
+                    rows = o .rows ∙ ap₂ (insertAt r) (made-row s bytes n t (named-is .0) (named-is .1)) (h .lies .rows) ∙ inserted-rows S s bytes r pl;
+                    capacity = o .cap ∙ h .lies .capacity;
+                  },
+                )

@@ -74,127 +74,127 @@ module _ (s : Bytes) (xs : List Item) where
 module _
     (b s : Bytes) (n t : ℕ) (en : n ≡ length (prefixOf s)) (et : t ≡ tagOf (suffixOf s)) (r m : ℕ) (eb : Bounded b (keyIn 0 (take n s) t []) r) (ec : Counted b m)
     (z : Bool) (ez : Keyed b r m (take n s) t z)
-    where
-  module _ (S : State) (h : Holds b S) where
-    m-is : m ≡ length (S .items)
-    m-is = ec .is S h
+  where
+    module _ (S : State) (h : Holds b S) where
+      m-is : m ≡ length (S .items)
+      m-is = ec .is S h
 
-    r-is : r ≡ bound keyOfItem (itemKey s) (S .items)
-    r-is = bound-of b s n t en et r (countOf b) refl eb S h
+      r-is : r ≡ bound keyOfItem (itemKey s) (S .items)
+      r-is = bound-of b s n t en et r (countOf b) refl eb S h
 
-    same-at : r < length (S .items) → sameKey (itemKey s) (keyOfItem (getD (S .items) r noItem)) ≡ keyedAt b r (take n s) t
-    same-at l = same-is b s n t en et r (countOf b) refl eb S h l
+      same-at : r < length (S .items) → sameKey (itemKey s) (keyOfItem (getD (S .items) r noItem)) ≡ keyedAt b r (take n s) t
+      same-at l = same-is b s n t en et r (countOf b) refl eb S h l
 
-    z-is : z ≡ (ltb r m && keyedAt b r (take n s) t)
-    z-is = ez .is (h .lies .sound) (ec .low)
+      z-is : z ≡ (ltb r m && keyedAt b r (take n s) t)
+      z-is = ez .is (h .lies .sound) (ec .low)
 
-    -- 10
-    taken : z ≡ true → Taken s (S .items) ≡ true
-    taken q =
-        let l : r < length (S .items) = omega (arith, ltb-true r m (and-left (ltb r m) (keyedAt b r (take n s) t) (sym z-is ∙ q)), m-is) in
-        let k : sameKey (itemKey s) (keyOfItem (getD (S .items) r noItem)) ≡ true = same-at l ∙ and-right (ltb r m) (keyedAt b r (take n s) t) (sym z-is ∙ q) in
-        let B = bound keyOfItem (itemKey s) (S .items) in
-        let p = bound-hit keyOfItem (itemKey s) (S .items) noItem (h .good .items .sorted) (subst (λ (i : ℕ). i < length (S .items)) r-is l) (subst (λ (i : ℕ). sameKey (itemKey s) (keyOfItem (getD (S .items) i noItem)) ≡ true) r-is k) in
-        ap held (lookup-at keyOfItem (itemKey s) (S .items) noItem (subst (λ (i : ℕ). i < length (S .items)) (r-is ∙ sym p) l))
+      -- 10
+      taken : z ≡ true → Taken s (S .items) ≡ true
+      taken q =
+          let l : r < length (S .items) = omega (arith, ltb-true r m (and-left (ltb r m) (keyedAt b r (take n s) t) (sym z-is ∙ q)), m-is) in
+          let k : sameKey (itemKey s) (keyOfItem (getD (S .items) r noItem)) ≡ true = same-at l ∙ and-right (ltb r m) (keyedAt b r (take n s) t) (sym z-is ∙ q) in
+          let B = bound keyOfItem (itemKey s) (S .items) in
+          let p = bound-hit keyOfItem (itemKey s) (S .items) noItem (h .good .items .sorted) (subst (λ (i : ℕ). i < length (S .items)) r-is l) (subst (λ (i : ℕ). sameKey (itemKey s) (keyOfItem (getD (S .items) i noItem)) ≡ true) r-is k) in
+          ap held (lookup-at keyOfItem (itemKey s) (S .items) noItem (subst (λ (i : ℕ). i < length (S .items)) (r-is ∙ sym p) l))
 
-    untaken : z ≡ false → lookup keyOfItem (itemKey s) (S .items) ≡ none
-    untaken q = bound-miss keyOfItem (itemKey s) (S .items) noItem (h .good .items .sorted)
-        (subst (λ (i : ℕ). i < length (S .items) → sameKey (itemKey s) (keyOfItem (getD (S .items) i noItem)) ≡ false) r-is
-        (λ l. same-at l ∙ ap (λ (x : Bool). x && keyedAt b r (take n s) t) (sym (lt-ltb r m (omega (arith, m-is)))) ∙ sym z-is ∙ q))
+      untaken : z ≡ false → lookup keyOfItem (itemKey s) (S .items) ≡ none
+      untaken q = bound-miss keyOfItem (itemKey s) (S .items) noItem (h .good .items .sorted)
+          (subst (λ (i : ℕ). i < length (S .items) → sameKey (itemKey s) (keyOfItem (getD (S .items) i noItem)) ≡ false) r-is
+          (λ l. same-at l ∙ ap (λ (x : Bool). x && keyedAt b r (take n s) t) (sym (lt-ltb r m (omega (arith, m-is)))) ∙ sym z-is ∙ q))
 
-    free : z ≡ false → Absent keyOfItem (itemKey s) (S .items)
-    free q = absent keyOfItem (itemKey s) (S .items) (ap held (untaken q))
+      free : z ≡ false → Absent keyOfItem (itemKey s) (S .items)
+      free q = absent keyOfItem (itemKey s) (S .items) (ap held (untaken q))
 
-    -- 12
-    opposed-is : (i : ℕ) → i < length (S .items) → opposedAt b i (take n s) t ≡ clashing s (getD (S .items) i noItem)
-    opposed-is i l =
-        let y = getD (S .items) i noItem in
-        ap₂ _&&_ (ap₂ equivalent (item-prefix b S h i l) (prefix-take s n en))
-        (ap₂ tagsDisagree et (item-tag b S h i l) ∙ tags-disagree-is (suffixOf s) (suffixOf (y .name)))
+      -- 12
+      opposed-is : (i : ℕ) → i < length (S .items) → opposedAt b i (take n s) t ≡ clashing s (getD (S .items) i noItem)
+      opposed-is i l =
+          let y = getD (S .items) i noItem in
+          ap₂ _&&_ (ap₂ equivalent (item-prefix b S h i l) (prefix-take s n en))
+          (ap₂ tagsDisagree et (item-tag b S h i l) ∙ tags-disagree-is (suffixOf s) (suffixOf (y .name)))
 
-    place-is : z ≡ false → place keyOfItem (itemKey s) (S .items) ≡ r
-    place-is q = sym (r-is ∙ bound-place keyOfItem (itemKey s) (S .items) (free q))
+      place-is : z ≡ false → place keyOfItem (itemKey s) (S .items) ≡ r
+      place-is q = sym (r-is ∙ bound-place keyOfItem (itemKey s) (S .items) (free q))
 
-    r-le : z ≡ false → r ≤ length (S .items)
-    r-le q = omega (arith, r-is, first-le (λ (x : Item). not (before (keyOfItem x) (itemKey s))) (S .items))
+      r-le : z ≡ false → r ≤ length (S .items)
+      r-le q = omega (arith, r-is, first-le (λ (x : Item). not (before (keyOfItem x) (itemKey s))) (S .items))
 
-    neighbours : z ≡ false → Disagreeing s (S .items) ≡ (ltb 0 r && (ltb (r - 1) m && opposedAt b (r - 1) (take n s) t) || ltb r m && opposedAt b r (take n s) t)
-    neighbours q =
-        subst (λ (i : ℕ). Disagreeing s (S .items) ≡ (ltb 0 i && clashing s (getD (S .items) (i - 1) noItem) || ltb i (length (S .items)) && clashing s (getD (S .items) i noItem))) (place-is q)
-        (disagrees-neighbours s (S .items) (h .good .items .sorted) (h .good .beside) (free q) noItem)
-        ∙ ap₂ _||_ (lower (ltb 0 r) refl) (upper (ltb r m) refl)
-      where
-        lower : (a : Bool) → ltb 0 r ≡ a → (a && clashing s (getD (S .items) (r - 1) noItem)) ≡ (a && (ltb (r - 1) m && opposedAt b (r - 1) (take n s) t))
-        lower false e = refl
-        lower true e =
-            let l : r - 1 < length (S .items) = omega (arith, ltb-true 0 r e, r-le q) in
-            rw (lt-ltb (r - 1) m (omega (arith, m-is))) (sym (opposed-is (r - 1) l))
+      neighbours : z ≡ false → Disagreeing s (S .items) ≡ (ltb 0 r && (ltb (r - 1) m && opposedAt b (r - 1) (take n s) t) || ltb r m && opposedAt b r (take n s) t)
+      neighbours q =
+          subst (λ (i : ℕ). Disagreeing s (S .items) ≡ (ltb 0 i && clashing s (getD (S .items) (i - 1) noItem) || ltb i (length (S .items)) && clashing s (getD (S .items) i noItem))) (place-is q)
+          (disagrees-neighbours s (S .items) (h .good .items .sorted) (h .good .beside) (free q) noItem)
+          ∙ ap₂ _||_ (lower (ltb 0 r) refl) (upper (ltb r m) refl)
+        where
+          lower : (a : Bool) → ltb 0 r ≡ a → (a && clashing s (getD (S .items) (r - 1) noItem)) ≡ (a && (ltb (r - 1) m && opposedAt b (r - 1) (take n s) t))
+          lower false e = refl
+          lower true e =
+              let l : r - 1 < length (S .items) = omega (arith, ltb-true 0 r e, r-le q) in
+              rw (lt-ltb (r - 1) m (omega (arith, m-is))) (sym (opposed-is (r - 1) l))
 
-        upper : (a : Bool) → ltb r m ≡ a → (ltb r (length (S .items)) && clashing s (getD (S .items) r noItem)) ≡ (a && opposedAt b r (take n s) t)
-        upper false e = rw (le-ltb r (length (S .items)) (omega (arith, ltb-false r m e, m-is)))
-        upper true e =
-            let l : r < length (S .items) = omega (arith, ltb-true r m e, m-is) in
-            rw (lt-ltb r (length (S .items)) l) (sym (opposed-is r l))
+          upper : (a : Bool) → ltb r m ≡ a → (ltb r (length (S .items)) && clashing s (getD (S .items) r noItem)) ≡ (a && opposedAt b r (take n s) t)
+          upper false e = rw (le-ltb r (length (S .items)) (omega (arith, ltb-false r m e, m-is)))
+          upper true e =
+              let l : r < length (S .items) = omega (arith, ltb-true r m e, m-is) in
+              rw (lt-ltb r (length (S .items)) l) (sym (opposed-is r l))
 
-    -- 11
-    growing : (w : Bool) → Grown b m (take n s) w → w ≡ Growing s (S .items)
-    unfolding rowsFor itemRow
-    growing w g =
-        g .is (h .lies .sound)
-        ∙ ap (any (λ (x : Row). grows (take n s) (x .f0))) (ap (take m) (h .lies .rows) ∙ take-at (map itemRow (S .items)) (otherRows S) m (length-map (S .items) itemRow ∙ sym m-is))
-        ∙ any-map itemRow (λ (x : Row). grows (take n s) (x .f0)) (S .items)
-        ∙ any-same (λ (i : Item). grows (take n s) (itemRow i .f0)) (λ (i : Item). grows (prefixOf s) (prefixOf (i .name))) (λ i. ap (λ (p : Bytes). grows p (prefixOf (i .name))) (prefix-take s n en)) (S .items)
+      -- 11
+      growing : (w : Bool) → Grown b m (take n s) w → w ≡ Growing s (S .items)
+      unfolding rowsFor itemRow
+      growing w g =
+          g .is (h .lies .sound)
+          ∙ ap (any (λ (x : Row). grows (take n s) (x .f0))) (ap (take m) (h .lies .rows) ∙ take-at (map itemRow (S .items)) (otherRows S) m (length-map (S .items) itemRow ∙ sym m-is))
+          ∙ any-map itemRow (λ (x : Row). grows (take n s) (x .f0)) (S .items)
+          ∙ any-same (λ (i : Item). grows (take n s) (itemRow i .f0)) (λ (i : Item). grows (prefixOf s) (prefixOf (i .name))) (λ i. ap (λ (p : Bytes). grows p (prefixOf (i .name))) (prefix-take s n en)) (S .items)
 
-  -- EACH WAY OUT
-  pub clash-10 : z ≡ true → Clashing b s 10
-  clash-10 q = record { is = λ S h. first-10 s (S .items) (taken S h q) }
+    -- EACH WAY OUT
+    pub clash-10 : z ≡ true → Clashing b s 10
+    clash-10 q = record { is = λ S h. first-10 s (S .items) (taken S h q) }
 
-  module _ (q : z ≡ false) (x : Bool) (ex : Opposed b r m (take n s) t x) where
-    or-right-true : (a : Bool) → (a || true) ≡ true
-    or-right-true true = refl
-    or-right-true false = refl
+    module _ (q : z ≡ false) (x : Bool) (ex : Opposed b r m (take n s) t x) where
+      or-right-true : (a : Bool) → (a || true) ≡ true
+      or-right-true true = refl
+      or-right-true false = refl
 
-    x-is : (S : State) → Holds b S → (ltb r m && opposedAt b r (take n s) t) ≡ x
-    x-is S h = sym (ex .is (h .lies .sound) (ec .low))
+      x-is : (S : State) → Holds b S → (ltb r m && opposedAt b r (take n s) t) ≡ x
+      x-is S h = sym (ex .is (h .lies .sound) (ec .low))
 
-    pub clash-12 : x ≡ true → Clashing b s 12
-    clash-12 e = record { is = λ S h. first-12 s (S .items) (ap held (untaken S h q)) (neighbours S h q ∙ rw (x-is S h, e, or-right-true)) }
+      pub clash-12 : x ≡ true → Clashing b s 12
+      clash-12 e = record { is = λ S h. first-12 s (S .items) (ap held (untaken S h q)) (neighbours S h q ∙ rw (x-is S h, e, or-right-true)) }
 
-    module _ (y : Bool) (ey : OpposedBefore b r m (take n s) t y) where
-      y-is : (S : State) → Holds b S → (ltb 0 r && (ltb (r - 1) m && opposedAt b (r - 1) (take n s) t)) ≡ y
-      y-is S h = sym (ey .is (h .lies .sound) (ec .low))
+      module _ (y : Bool) (ey : OpposedBefore b r m (take n s) t y) where
+        y-is : (S : State) → Holds b S → (ltb 0 r && (ltb (r - 1) m && opposedAt b (r - 1) (take n s) t)) ≡ y
+        y-is S h = sym (ey .is (h .lies .sound) (ec .low))
 
-      pub clash-12-before : y ≡ true → Clashing b s 12
-      clash-12-before e = record { is = λ S h. first-12 s (S .items) (ap held (untaken S h q)) (neighbours S h q ∙ rw (y-is S h, e)) }
+        pub clash-12-before : y ≡ true → Clashing b s 12
+        clash-12-before e = record { is = λ S h. first-12 s (S .items) (ap held (untaken S h q)) (neighbours S h q ∙ rw (y-is S h, e)) }
 
-      module _ (e : x ≡ false) (f : y ≡ false) (w : Bool) (ew : Grown b m (take n s) w) where
-        agreeing : (S : State) → Holds b S → Disagreeing s (S .items) ≡ false
-        agreeing S h = neighbours S h q ∙ rw (y-is S h, f, x-is S h, e)
+        module _ (e : x ≡ false) (f : y ≡ false) (w : Bool) (ew : Grown b m (take n s) w) where
+          agreeing : (S : State) → Holds b S → Disagreeing s (S .items) ≡ false
+          agreeing S h = neighbours S h q ∙ rw (y-is S h, f, x-is S h, e)
 
-        pub clash-11 : w ≡ true → Clashing b s 11
-        clash-11 g = record { is = λ S h. first-11 s (S .items) (ap held (untaken S h q)) (agreeing S h) (sym (growing S h w ew) ∙ g) }
+          pub clash-11 : w ≡ true → Clashing b s 11
+          clash-11 g = record { is = λ S h. first-11 s (S .items) (ap held (untaken S h q)) (agreeing S h) (sym (growing S h w ew) ∙ g) }
 
-        pub clash-0 : w ≡ false → Clashing b s 0
-        clash-0 g = record { is = λ S h. first-0 s (S .items) (ap held (untaken S h q)) (agreeing S h) (sym (growing S h w ew) ∙ g) }
+          pub clash-0 : w ≡ false → Clashing b s 0
+          clash-0 g = record { is = λ S h. first-0 s (S .items) (ap held (untaken S h q)) (agreeing S h) (sym (growing S h w ew) ∙ g) }
 
-      -- the rows beside r show that 11 does not hold
-      module _ (e : x ≡ false) (f : y ≡ false) (u : Bool) (eu : Parted b r (take n s) u) (v : Bool) (ev : Extended b r m (take n s) v) (k : (u || v) ≡ false) where
-        module _ (S : State) (h : Holds b S) where
-          unparted : 0 < r → partedAt b (r - 1) (prefixOf s) ≡ false
-          unparted z =
-              ap (partedAt b (r - 1)) (sym (prefix-take s n en)) ∙ ap (λ (t : Bool). t && partedAt b (r - 1) (take n s)) (sym (lt-ltb 0 r z))
-              ∙ sym (eu .is (h .lies .sound) (eb .within)) ∙ or-left-false u v k
+        -- the rows beside r show that 11 does not hold
+        module _ (e : x ≡ false) (f : y ≡ false) (u : Bool) (eu : Parted b r (take n s) u) (v : Bool) (ev : Extended b r m (take n s) v) (k : (u || v) ≡ false) where
+          module _ (S : State) (h : Holds b S) where
+            unparted : 0 < r → partedAt b (r - 1) (prefixOf s) ≡ false
+            unparted z =
+                ap (partedAt b (r - 1)) (sym (prefix-take s n en)) ∙ ap (λ (t : Bool). t && partedAt b (r - 1) (take n s)) (sym (lt-ltb 0 r z))
+                ∙ sym (eu .is (h .lies .sound) (eb .within)) ∙ or-left-false u v k
 
-          unextended : r < length (S .items) → extendedAt b r (prefixOf s) ≡ false
-          unextended z =
-              ap (extendedAt b r) (sym (prefix-take s n en)) ∙ ap (λ (t : Bool). t && extendedAt b r (take n s)) (sym (lt-ltb r m (omega (arith, m-is S h))))
-              ∙ sym (ev .is (h .lies .sound) (ec .low)) ∙ or-right-false u v k
+            unextended : r < length (S .items) → extendedAt b r (prefixOf s) ≡ false
+            unextended z =
+                ap (extendedAt b r) (sym (prefix-take s n en)) ∙ ap (λ (t : Bool). t && extendedAt b r (take n s)) (sym (lt-ltb r m (omega (arith, m-is S h))))
+                ∙ sym (ev .is (h .lies .sound) (ec .low)) ∙ or-right-false u v k
 
-          ungrown : Growing s (S .items) ≡ false
-          ungrown =
-              none-grown S (h .good) s r (r-is S h)
-              (λ z. ap (λ (a : Bytes). eqb (getD (prefixOf s) (common (fold a) (fold (prefixOf s))) 0) slash) (sym (item-prefix b S h (r - 1) (omega (arith, r-le S h q)))) ∙ unparted z)
-              (λ z. ap (λ (a : Bytes). extends a (prefixOf s)) (sym (item-prefix b S h r z)) ∙ unextended z)
+            ungrown : Growing s (S .items) ≡ false
+            ungrown =
+                none-grown S (h .good) s r (r-is S h)
+                (λ z. ap (λ (a : Bytes). eqb (getD (prefixOf s) (common (fold a) (fold (prefixOf s))) 0) slash) (sym (item-prefix b S h (r - 1) (omega (arith, r-le S h q)))) ∙ unparted z)
+                (λ z. ap (λ (a : Bytes). extends a (prefixOf s)) (sym (item-prefix b S h r z)) ∙ unextended z)
 
-        pub clash-apart : Clashing b s 0
-        clash-apart = record { is = λ S h. first-0 s (S .items) (ap held (untaken S h q)) (neighbours S h q ∙ rw (y-is S h, f, x-is S h, e)) (ungrown S h) }
+          pub clash-apart : Clashing b s 0
+          clash-apart = record { is = λ S h. first-0 s (S .items) (ap held (untaken S h q)) (neighbours S h q ∙ rw (y-is S h, f, x-is S h, e)) (ungrown S h) }

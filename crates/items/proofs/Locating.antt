@@ -50,7 +50,7 @@ module _ (s : Bytes) (xs : List Item) (sorted : Sorted keyOfItem xs) where
   at-found l e m =
       let p : spot keyOfItem (itemKey s) xs ≡ B = bound-hit keyOfItem (itemKey s) xs noItem sorted l e in
       let q : lookup keyOfItem (itemKey s) xs ≡ some (getD xs B noItem) =
-          lookup-at keyOfItem (itemKey s) xs noItem (omega arith) ∙ ap (λ (n : ℕ). some (getD xs n noItem)) p in
+      lookup-at keyOfItem (itemKey s) xs noItem (omega arith) ∙ ap (λ (n : ℕ). some (getD xs n noItem)) p in
       (rw (q, m, beq-refl), sym p)
 
   -- it has not both
@@ -68,7 +68,7 @@ module _ (s : Bytes) (xs : List Item) (sorted : Sorted keyOfItem xs) where
           let l : B < length xs = ltb-true B (length xs) e in
           let p : spot keyOfItem (itemKey s) xs ≡ B = bound-hit keyOfItem (itemKey s) xs noItem sorted l f in
           let q : lookup keyOfItem (itemKey s) xs ≡ some (getD xs B noItem) =
-              lookup-at keyOfItem (itemKey s) xs noItem (omega arith) ∙ ap (λ (n : ℕ). some (getD xs n noItem)) p in
+          lookup-at keyOfItem (itemKey s) xs noItem (omega arith) ∙ ap (λ (n : ℕ). some (getD xs n noItem)) p in
           ap (sameLast (last (suffixOf s))) q
           ∙ rw (not-passing (Bool·beq (last (suffixOf s)) (last (suffixOf (getD xs B noItem .name)))) (λ y. never l f (beq-true (last (suffixOf s)) (last (suffixOf (getD xs B noItem .name))) y)))
 
@@ -142,7 +142,7 @@ module _ (b s : Bytes) (n t : ℕ) (en : n ≡ length (prefixOf s)) (et : t ≡ 
     tagged l k o =
         let y = getD (S .items) r noItem in
         let q : eqb (rank (suffixOf s)) (rank (suffixOf (y .name))) ≡ true =
-            and-right (equivalent (prefixOf s) (prefixOf (y .name))) (eqb (rank (suffixOf s)) (rank (suffixOf (y .name)))) (sym (same-item-key s (y .name)) ∙ k) in
+        and-right (equivalent (prefixOf s) (prefixOf (y .name))) (eqb (rank (suffixOf s)) (rank (suffixOf (y .name)))) (sym (same-item-key s (y .name)) ∙ k) in
         item-tag b S h r l ∙ sym (tag-same (suffixOf s) (suffixOf (y .name)) (eqb-true (rank (suffixOf s)) (rank (suffixOf (y .name))) q) o) ∙ sym et
 
     alike : (l : r < length (S .items)) → Same r → equivalent (fieldOf (rowAt b r) 0) (take n s) ≡ true

@@ -74,7 +74,7 @@ module _ (b s : Bytes) (size r : ℕ) (accepted : itemField s ≡ 0) (k : ℕ) (
         pub cleared : (p : Bytes) (t : ℕ) (id : Bytes) → Bounded b (keyIn 0 p t id) r → (c : ℕ) → c ≡ countOf b → c < 640 → length s ≤ f → size ≤ f - length s → Cleared b s size r 0
         cleared p t id eb c e l g i = record {
           is = λ S bytes h y.
-            room-is S bytes h y
-            ∙ rw (lt-leb 256 (length (S .items)) (omega (arith, ec .is S h)), le-ltb (S .capacity) (charge S + (length s + size)) (omega (arith, used-charge b S h, h .lies .capacity)));
+              room-is S bytes h y
+              ∙ rw (lt-leb 256 (length (S .items)) (omega (arith, ec .is S h)), le-ltb (S .capacity) (charge S + (length s + size)) (omega (arith, used-charge b S h, h .lies .capacity)));
           room = λ _. record { at = eb .within; more = omega arith; fits = omega arith };
         }

@@ -37,8 +37,8 @@ module _ (b : List ℕ) (i m : ℕ) (p : Bytes) (t : ℕ) where
     pub keyed-here : u / 2 ≡ t / 2 → (f : Bytes) → (Sound b → i < countOf b → f ≡ fieldOf (rowAt b i) 0) → (z : Bool) → z ≡ equivalent f p → Keyed b i m p t z
     keyed-here e f ef z ez = record {
       is = λ s k.
-        ez ∙ ap (λ (g : Bytes). equivalent g p) (ef s (omega arith))
-        ∙ both-true (ltb i m) (equivalent (fieldOf (rowAt b i) 0) p) (eqb (tagAt b i / 2) (t / 2)) (lt-ltb i m l) (ap (λ (v : ℕ). eqb (v / 2) (t / 2)) (tag-at s k) ∙ eq-eqb (u / 2) (t / 2) e);
+          ez ∙ ap (λ (g : Bytes). equivalent g p) (ef s (omega arith))
+          ∙ both-true (ltb i m) (equivalent (fieldOf (rowAt b i) 0) p) (eqb (tagAt b i / 2) (t / 2)) (lt-ltb i m l) (ap (λ (v : ℕ). eqb (v / 2) (t / 2)) (tag-at s k) ∙ eq-eqb (u / 2) (t / 2) e);
     }
 
     module _ (d : Bool) (ed : d ≡ tagsDisagree t u) where
@@ -48,8 +48,8 @@ module _ (b : List ℕ) (i m : ℕ) (p : Bytes) (t : ℕ) where
       pub opposed-here : not d ≡ false → (f : Bytes) → (Sound b → i < countOf b → f ≡ fieldOf (rowAt b i) 0) → (z : Bool) → z ≡ equivalent f p → Opposed b i m p t z
       opposed-here e f ef z ez = record {
         is = λ s k.
-          ez ∙ ap (λ (g : Bytes). equivalent g p) (ef s (omega arith))
-          ∙ both-true (ltb i m) (equivalent (fieldOf (rowAt b i) 0) p) (tagsDisagree t (tagAt b i)) (lt-ltb i m l) (ap (tagsDisagree t) (tag-at s k) ∙ sym ed ∙ not-false d e);
+            ez ∙ ap (λ (g : Bytes). equivalent g p) (ef s (omega arith))
+            ∙ both-true (ltb i m) (equivalent (fieldOf (rowAt b i) 0) p) (tagsDisagree t (tagAt b i)) (lt-ltb i m l) (ap (tagsDisagree t) (tag-at s k) ∙ sym ed ∙ not-false d e);
       }
 
 module _ (b : List ℕ) (r m : ℕ) (p : Bytes) (t : ℕ) where

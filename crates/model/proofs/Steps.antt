@@ -72,8 +72,8 @@ module _ (S : State) (g : Good S) where
       let p₁₂ : 0 < 12 = omega arith in
       let free : Absent keyOfItem (itemKey (new .name)) (S .items) = absent keyOfItem (itemKey (new .name)) (S .items) (unmet _ 10 p₁₀ (z .0)) in
       let agree =
-          any-those-none (λ (i : Item). disagrees (suffixOf (new .name)) (suffixOf (i .name))) (λ (i : Item). equivalent (prefixOf (i .name)) (prefixOf (new .name))) (S .items)
-          (unmet _ 12 p₁₂ (z .1 .0)) in
+      any-those-none (λ (i : Item). disagrees (suffixOf (new .name)) (suffixOf (i .name))) (λ (i : Item). equivalent (prefixOf (i .name)) (prefixOf (new .name))) (S .items)
+      (unmet _ 12 p₁₂ (z .1 .0)) in
       let apart = any-none (λ (i : Item). grows (prefixOf (new .name)) (prefixOf (i .name))) (S .items) (unmet _ 11 p₁₁ (z .1 .1 .0)) in
       each-both (λ (i : Item). Free i × Agree i) (λ (i : Item). grows (prefixOf (new .name)) (prefixOf (i .name)) ≡ false) (Beside new) (S .items)
       (λ i a b. beside-new new i (a .0) (a .1) b) (each-both Free Agree (λ (i : Item). Free i × Agree i) (S .items) (λ i a b. (a, b)) free agree) apart

@@ -142,8 +142,8 @@ piece-spelled p k l h b =
     let a : afterLast slash s ≡ suc (length p) = last-append slash p (tail k l) (last-none slash (tail k l) (tail-but slash k l refl refl (no-slash l))) in
     let d : drop (suc (length p)) s ≡ tail k l = rw add-one at (drop-append-add p (slash ∷ tail k l) 1) in
     let t : take (suc (length p) - 1) s ≡ p =
-        let z : suc (length p) - 1 ≡ length p = omega arith in
-        rw z (take-append-seam p (slash ∷ tail k l)) in
+    let z : suc (length p) - 1 ≡ length p = omega arith in
+    rw z (take-append-seam p (slash ∷ tail k l)) in
     rw (a, eqb·suc-zero, d, a, d, suffix-spelled k l b, t, h)
 
 pub whole-spelled : (p : List ℕ) → partName p ≡ true → itemName (spelled p Whole) ≡ Named (length p) Whole
@@ -152,5 +152,5 @@ whole-spelled p h =
     let a : 0 < afterLast slash p = last-pos slash p (omega arith) (name-slash p h) in
     let n : every (but openBracket) p ≡ true = name-but p h openBracket refl refl refl (omega arith) refl in
     let f : eqb (getD (drop (afterLast slash p) p) 0 0) openBracket ≡ false =
-        rw (getD-drop (afterLast slash p) p 0 0) (not-true (eqb (getD p (afterLast slash p + 0) 0) openBracket) (every-getD (but openBracket) refl p (afterLast slash p + 0) n)) in
+    rw (getD-drop (afterLast slash p) p 0 0) (not-true (eqb (getD p (afterLast slash p + 0) 0) openBracket) (every-getD (but openBracket) refl p (afterLast slash p + 0) n)) in
     rw (ne-eqb (afterLast slash p) 0 (λ z. omega arith), f, h)

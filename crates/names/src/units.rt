@@ -88,7 +88,11 @@ fn is_char3(t: &[u8; 256], a: u8, b: u8, c: u8) -> bool
     ensures { λ r. ⌜ r ≡ char3 a b c ⌝ }
 {
     let v = (a as u32) % 16 * 4096 + (b as u32) % 64 * 64 + (c as u32) % 64;
-    (class(t, a) == 18) & is_continuation(t, b) & is_continuation(t, c) & (0x800 <= v) & is_ucschar(v)
+    (class(t, a) == 18)
+        & is_continuation(t, b)
+        & is_continuation(t, c)
+        & (0x800 <= v)
+        & is_ucschar(v)
 }
 
 fn is_char4(t: &[u8; 256], a: u8, b: u8, c: u8, d: u8) -> bool

@@ -36,7 +36,13 @@ fn led(p: &mut [u8], types: &mut [u8], out: &mut [u8]) -> Resolution
     put_item(p, b"/foo/b.xml", b"tile");
     put_relationship(p, b"/foo/test.xml", b"r1", b"a:tile", 0, b"b.xml");
     write_types(p, types);
-    resolve_relationship(p, b"/FOO/TEST.xml", b"r1", b"http://www.example.com/ex.opc", out)
+    resolve_relationship(
+        p,
+        b"/FOO/TEST.xml",
+        b"r1",
+        b"http://www.example.com/ex.opc",
+        out,
+    )
 }
 
 fn main() {

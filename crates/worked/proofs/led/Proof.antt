@@ -10,6 +10,7 @@ use Rattle.worked.proofs.WorkedList.{accepted, led-last}
 use borrow.Author.Needs.{needs}
 use Rattle.worked.proofs.led.Statement.{statement}
 use Rattle.worked.proofs.led.Tie as tie
+
 start-requires : tie.Need-start-requires
 start-requires c κs = search needs
 
