@@ -1,6 +1,7 @@
 // The calls that write a stream. Rows stand in the order of their keys, so what is listed is a run of them, found by its ends.
 use crate::listing::write_stream;
 use contract::search::bound;
+use contract::search::set_start;
 use iri::targets::source_refusal;
 use iri::writing::Written;
 use store::header::is_package;
@@ -15,8 +16,8 @@ pub fn write_types(pkg: &[u8], out: &mut [u8]) -> Written
     if !is_package(pkg) {
         return Written::Refused(1);
     }
-    let from = bound(pkg, 1, b"", 0, b"");
-    let to = bound(pkg, 3, b"", 0, b"");
+    let from = set_start(pkg, 1);
+    let to = set_start(pkg, 3);
     write_stream(
         pkg,
         from,

@@ -13,23 +13,11 @@ is-package-requires c κs = search needs
 returns : tie.Need-returns
 returns c = prints-foreign _ (closed _ _ (c .before .is-package .ensures) (c .if1 .taken)) WriteTypes (now (c .before .before .before .before .args .out))
 
-slice-aggregate-bound : tie.Need-slice-aggregate-bound
-slice-aggregate-bound c = search needs
+set-start-requires : tie.Need-set-start-requires
+set-start-requires c κs = opened-shape _ _ (c .before .is-package .ensures) (c .if1 .left) .few
 
-slice-aggregate-bound-2 : tie.Need-slice-aggregate-bound-2
-slice-aggregate-bound-2 c = search needs
-
-bound-requires : tie.Need-bound-requires
-bound-requires c κs = opened-shape _ _ (c .before .before .before .is-package .ensures) (c .before .before .if1 .left) .few
-
-slice-aggregate-bound-3 : tie.Need-slice-aggregate-bound-3
-slice-aggregate-bound-3 c = search needs
-
-slice-aggregate-bound-4 : tie.Need-slice-aggregate-bound-4
-slice-aggregate-bound-4 c = search needs
-
-bound-requires-2 : tie.Need-bound-requires-2
-bound-requires-2 c κs = opened-shape _ _ (c .before .before .before .before .before .before .is-package .ensures) (c .before .before .before .before .before .if1 .left) .few
+set-start-requires-2 : tie.Need-set-start-requires-2
+set-start-requires-2 c κs = opened-shape _ _ (c .before .before .is-package .ensures) (c .before .if1 .left) .few
 
 slice-aggregate-write-stream : tie.Need-slice-aggregate-write-stream
 slice-aggregate-write-stream c = search needs
@@ -38,13 +26,16 @@ slice-aggregate-write-stream-2 : tie.Need-slice-aggregate-write-stream-2
 slice-aggregate-write-stream-2 c = search needs
 
 write-stream-requires : tie.Need-write-stream-requires
-write-stream-requires c κs = (c .before .before .before .bound2 .ensures .within, omega (arith, c .before .before .before .bound2 .ensures .within, opened-shape _ _ (c .before .before .before .before .before .before .before .before .before .before .is-package .ensures) (c .before .before .before .before .before .before .before .before .before .if1 .left) .few), omega arith, omega arith)
+write-stream-requires c κs =
+    (c .before .before .before .set-start2 .ensures .within, omega (arith, c .before .before .before .set-start2 .ensures .within, opened-shape _ _ (c .before .before .before .before .before .before .is-package .ensures) (c .before .before .before .before .before .if1 .left) .few), omega arith, omega arith)
 
 same-length : tie.Need-same-length
 same-length c = search needs
 
 returns-2 : tie.Need-returns-2
-returns-2 c = types-written _ (opened _ _ (c .before .before .before .before .before .before .before .before .before .before .before .before .before .is-package .ensures) (c .before .before .before .before .before .before .before .before .before .before .before .before .if1 .left)) _ _ (c .before .before .before .before .before .before .before .before .before .bound .ensures) (c .before .before .before .before .before .before .bound2 .ensures) (now (c .before .before .before .before .before .before .before .before .before .before .before .before .before .before .before .before .args .out)) _ (c .before .before .write-stream .ensures)
+returns-2 c =
+    types-written _ (opened _ _ (c .before .before .before .before .before .before .before .before .before .is-package .ensures) (c .before .before .before .before .before .before .before .before .if1 .left)) _ _ (c .before .before .before .before .before .before .before .set-start .ensures) (c .before .before .before .before .before .before .set-start2 .ensures)
+    (now (c .before .before .before .before .before .before .before .before .before .before .before .before .args .out)) _ (c .before .before .write-stream .ensures)
 
 pub write-types-spec : {M : Type 1} → statement M
 write-types-spec =
@@ -52,12 +43,8 @@ write-types-spec =
     (tie.spec
     is-package-requires
     returns
-    slice-aggregate-bound
-    slice-aggregate-bound-2
-    bound-requires
-    slice-aggregate-bound-3
-    slice-aggregate-bound-4
-    bound-requires-2
+    set-start-requires
+    set-start-requires-2
     slice-aggregate-write-stream
     slice-aggregate-write-stream-2
     write-stream-requires
