@@ -16,7 +16,7 @@ pub struct Run {
     pub to: usize,
 }
 
-// Where they end, if the row before row e is one of them, by halving: no item has so great a number.
+// Where the items of the group p end, if the row before row e is one of them, by halving: no item has so great a number as is asked for.
 fn end_behind(pkg: &[u8], e: usize, n: usize, p: &[u8]) -> usize
     requires { ⌜ (countOf (now pkg) ≤ slotCount) × (e ≤ n) ⌝ }
     ensures { λ r. ⌜ EndedBehind (now (pkg .entry)) e n (now (p .entry)) r ⌝ }
