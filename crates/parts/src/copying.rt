@@ -1,7 +1,7 @@
 // Copying into a lent output.
 use chars::numbers::smaller;
 use iri::writing::Written;
-use store::bytes::copy_in;
+use store::moves::copy_in;
 ghost use mathlib.Core.Path.{_≡_};
 ghost use Prim.Native.Nat.{_-_, _≤_};
 ghost use lib.ListN.{length, take, drop};

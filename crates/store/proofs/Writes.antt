@@ -51,7 +51,7 @@ pub part-mid : (a n : ℕ) (x y z : List ℕ) → length x ≡ a → length y �
 unfolding part
 part-mid a n x y z ex ey = ap (take n) (drop-at x (y ++ z) a ex) ∙ take-at y z n ey
 
--- two writes side by side are one
+-- two writes side by side are one, the second behind the first or before it
 pub join : {l m o : List ℕ} {a k : ℕ} {s : List ℕ} (b j : ℕ) {t : List ℕ} → Write l m a k s → Write m o b j t → b ≡ a + k → Write l o a (k + j) (s ++ t)
 unfolding splice
 join {l} {m} {o} {a} {k} {s} b j {t} p q e =
@@ -66,6 +66,21 @@ join {l} {m} {o} {a} {k} {s} b j {t} p q e =
     write l o a (k + j) (s ++ t)
     (q .is ∙ ap (λ (x : List ℕ). x ++ t ++ drop (b + length t) m) et ∙ ap (λ (x : List ℕ). w ++ t ++ x) ed
     ∙ ap (λ (x : List ℕ). x ++ drop (a + length (s ++ t)) l) (append-assoc (take a l) s t))
+    (simp length-append (omega arith)) (omega arith)
+
+pub join-before : {l m o : List ℕ} {b j : ℕ} {t : List ℕ} (a k : ℕ) {s : List ℕ} → Write l m b j t → Write m o a k s → b ≡ a + k → Write l o a (k + j) (s ++ t)
+unfolding splice part
+join-before {l} {m} {o} {b} {j} {t} a k {s} p q e =
+    let w : List ℕ = take a l ++ s in
+    let rest : List ℕ = drop (b + length t) l in
+    let es : b + length t ≡ a + length (s ++ t) = simp length-append (omega arith) in
+    let el : length (take b l) ≡ b = length-take b l ∙ omega arith in
+    let eb : a + length s ≡ b = omega arith in
+    let ed : drop (a + length s) m ≡ t ++ rest =
+    ap (λ (x : ℕ). drop x m) eb ∙ ap (drop b) (p .is ∙ append-assoc (take b l) t rest) ∙ drop-at (take b l) (t ++ rest) b el in
+    write l o a (k + j) (s ++ t)
+    (q .is ∙ ap (λ (x : List ℕ). x ++ s ++ drop (a + length s) m) (before p 0 a (omega arith)) ∙ ap (λ (x : List ℕ). w ++ x) ed
+    ∙ sym (append-assoc w t rest) ∙ ap (λ (x : List ℕ). x ++ rest) (append-assoc (take a l) s t) ∙ ap (λ (x : ℕ). take a l ++ (s ++ t) ++ drop x l) es)
     (simp length-append (omega arith)) (omega arith)
 
 -- a number at an index

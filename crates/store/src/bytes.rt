@@ -1,4 +1,4 @@
-// Numbers and runs of bytes in a buffer.
+// Numbers in a buffer, and parts of it.
 ghost use mathlib.Core.Path.{_≡_};
 ghost use Prim.Native.Nat.{_+_, _^_, _≤_, _<_};
 ghost use lib.ListN.{length, getD};
@@ -39,45 +39,6 @@ pub fn put4(pkg: &mut [u8], at: usize, v: usize)
     pkg[at + 1] = (v / 256 % 256) as u8;
     pkg[at + 2] = (v / 256 / 256 % 256) as u8;
     pkg[at + 3] = (v / 256 / 256 / 256 % 256) as u8;
-}
-
-// Copies src into pkg from `at` on.
-pub fn copy_in(pkg: &mut [u8], at: usize, src: &[u8])
-    requires { ⌜ at + length (now src) ≤ length (now pkg) ⌝ }
-    ensures { λ _. ⌜ now (pkg .exit) ≡ splice (now (pkg .entry)) at (now (src .entry)) ⌝ }
-{
-    let mut i = 0;
-    while i < src.len() {
-        pkg[at + i] = src[i];
-        i += 1;
-    }
-}
-
-// Moves the `count` bytes from `from` on down to `to`.
-pub fn move_down(pkg: &mut [u8], from: usize, to: usize, count: usize)
-    requires { ⌜ (to ≤ from) × (from + count ≤ length (now pkg)) ⌝ }
-    ensures { λ _. ⌜ now (pkg .exit) ≡ splice (now (pkg .entry)) to (part from count (now (pkg .entry))) ⌝ }
-{
-    if from == to {
-        return;
-    }
-    let mut i = 0;
-    while i < count {
-        pkg[to + i] = pkg[from + i];
-        i += 1;
-    }
-}
-
-// Moves the `count` bytes from `from` on up to `to`.
-pub fn move_up(pkg: &mut [u8], from: usize, to: usize, count: usize)
-    requires { ⌜ (from ≤ to) × (to + count ≤ length (now pkg)) ⌝ }
-    ensures { λ _. ⌜ now (pkg .exit) ≡ splice (now (pkg .entry)) to (part from count (now (pkg .entry))) ⌝ }
-{
-    let mut i = count;
-    while 0 < i {
-        i -= 1;
-        pkg[to + i] = pkg[from + i];
-    }
 }
 
 // The n bytes from `at` on, or none where the slice has not so many.

@@ -2,6 +2,7 @@
 pub mod bytes;
 pub mod header;
 pub mod heap;
+pub mod moves;
 pub mod rows;
 pub mod slots;
 

@@ -6,8 +6,8 @@ use lib.ListN.{length, take, getD, set, length-set}
 use lib.Seq.{take-length}
 use Rattle.store.specs.Buffer.{splice}
 use Rattle.store.proofs.Copies.{splice-nil, copy-turn}
-use Rattle.store.proofs.bytes.copy_in.Statement.{statement}
-use Rattle.store.proofs.bytes.copy_in.Tie as tie
+use Rattle.store.proofs.moves.copy_each.Statement.{statement}
+use Rattle.store.proofs.moves.copy_each.Tie as tie
 
 abbrev Inv-loop : tie.InvT-loop
 Inv-loop pkg₀ at src i₀ pkg i = (i ≤ length src) × (length pkg ≡ length pkg₀) × (pkg ≡ splice pkg₀ at (take i src))
@@ -49,5 +49,5 @@ returns c =
     let e : c .before .loop .i ≡ length s = omega arith in
     c .before .loop .inv .2 ∙ ap (splice _ _) (ap (λ (k : ℕ). take k s) e ∙ take-length s)
 
-pub copy-in-spec : {M : Type 1} → statement M
-copy-in-spec = tie.close (tie.spec Inv-loop μ-loop loop-holds shared-slice-read-pkg add-pkg slice-write-pkg add-i loop-less loop-again same-length returns)
+pub copy-each-spec : {M : Type 1} → statement M
+copy-each-spec = tie.close (tie.spec Inv-loop μ-loop loop-holds shared-slice-read-pkg add-pkg slice-write-pkg add-i loop-less loop-again same-length returns)
