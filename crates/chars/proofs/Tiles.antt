@@ -1,14 +1,14 @@
 -- A walk over a list, unit by unit, is `tiled`: the laws that a loop with the position i cites.
 -- Assumes nothing.
-use mathlib.Core.Path.{_≡_, refl, sym, ap, _∙_}
-use mathlib.Core.Bool.{Bool, true, false, not, _&&_}
+use mathlib.Core.Path.{_≡_, refl, ap, _∙_}
+use mathlib.Core.Bool.{true, false}
 use mathlib.Core.List.{List, [], _∷_}
-use Prim.Native.Nat.{ℕ, zero, suc, pred, _+_, _-_, _≤_, _<_}
+use Prim.Native.Nat.{ℕ, zero, suc, _+_, _-_, _≤_, _<_}
 use native.Mathlib.Nat.{le-of-suc-le-suc, not-suc-le-zero}
 use native.Mathlib.Omega.{arith}
 use lib.Dec.{eqb·suc-zero}
-use lib.ListN.{length, take, drop, length-drop, drop-of-length-le}
-use lib.Seq.{drop-drop, take-all}
+use lib.ListN.{length, drop, length-drop, drop-of-length-le}
+use lib.Seq.{drop-drop}
 use Rattle.chars.specs.Lists.{tiled}
 
 module _ (u : List ℕ → ℕ) where

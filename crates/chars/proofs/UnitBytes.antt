@@ -5,9 +5,9 @@ use mathlib.Core.Bool.{Bool, true, false, not, _&&_, cond, false≢true}
 use mathlib.Core.List.{List, [], _∷_}
 use Prim.Native.Nat.{ℕ, zero, suc, pred, _≤_, _<_}
 use native.Mathlib.Omega.{arith}
-use lib.Dec.{leb, ltb, eqb}
+use lib.Dec.{leb, eqb}
 use lib.ListN.{take, drop, getD}
-use borrow.Author.Tests.{leb-true, ltb-true, eqb-true, ne-eqb}
+use borrow.Author.Tests.{leb-true, eqb-true, ne-eqb}
 use Rattle.chars.specs.Bytes.{percent, hexDigit, unreserved, continuation, lead2, lead3, lead4}
 use Rattle.chars.specs.Lists.{every, tiled}
 use Rattle.chars.specs.Characters.{ucschar, code2, code3, code4, char2, char3, char4, nameTriplet, stands, single, triplet, longUnit, unit}

@@ -1,13 +1,13 @@
 -- A unit lies within its text.
 -- Assumes nothing.
 use mathlib.Core.Path.{_≡_, refl, sym, _∙_}
-use mathlib.Core.Bool.{Bool, true, false, not, _&&_, _||_, cond, false≢true}
+use mathlib.Core.Bool.{Bool, true, false, not, _&&_, cond, false≢true}
 use mathlib.Core.List.{List, [], _∷_}
 use Prim.Native.Nat.{ℕ, zero, suc, _≤_, _<_, zero-le}
 use native.Mathlib.Omega.{arith}
 use lib.Dec.{leb, eqb}
 use lib.ListN.{length, getD}
-use Rattle.chars.specs.Bytes.{percent, within, digit, letter, hexDigit, unreserved, segmentByte, continuation, lead2, lead3, lead4}
+use Rattle.chars.specs.Bytes.{percent, digit, letter, hexDigit, unreserved, segmentByte, continuation, lead2, lead3, lead4}
 use Rattle.chars.specs.Characters.{ucschar, code2, code3, code4, char2, char3, char4, nameTriplet, stands, single, triplet, longUnit, unit}
 use Rattle.chars.specs.declared.units.Grammar.{Grammar}
 use Rattle.chars.specs.declared.units.Grammar.the-variants.{Segment, Iri}

@@ -1,10 +1,10 @@
 -- Bytes, their names and the classes that the grammars put them in. A byte is a number below 256, and every test computes.
 -- Assumes nothing.
 use Prim.Native.Nat.{ℕ, _+_, _*_, _/_, _%_}
-use mathlib.Core.Bool.{Bool, true, false, _&&_, _||_}
+use mathlib.Core.Bool.{Bool, false, _&&_, _||_}
 use mathlib.Core.List.{List, [], _∷_, map}
 use mathlib.Core.Path.{_≡_, refl}
-use Prim.Native.Char.{Char, code}
+use Prim.Native.Char.{code}
 use Prim.Native.String.{String, [] as ε, _∷_ as _◂_}
 use lib.Dec.{leb, eqb}
 use Rattle.chars.specs.declared.search.Alphabet.{Alphabet}

@@ -62,7 +62,7 @@ fn put_group(pkg: &[u8], from: usize, to: usize, out: &mut [u8], at: usize) -> u
 }
 
 // The lines of all parts. How many bytes they have.
-pub fn put_listing(pkg: &[u8], out: &mut [u8]) -> usize
+pub(crate) fn put_listing(pkg: &[u8], out: &mut [u8]) -> usize
     requires { ⌜ Shape (now pkg) ⌝ }
     ensures { λ r. ⌜ Listed (now (pkg .entry)) (now (out .entry)) r (now (out .exit)) ⌝ }
 {

@@ -1,21 +1,19 @@
 -- The ways in which a call's answer is right: one law for each.
 -- Assumes nothing.
-use Prim.Native.Nat.{ℕ, _+_, _≤_, _<_}
+use Prim.Native.Nat.{ℕ}
 use mathlib.Core.Path.{_≡_, refl, ap, sym, _∙_, subst}
 use mathlib.Core.Bool.{Bool, true, false, not, true≢false}
-use mathlib.Core.List.{List, [], _∷_, _++_}
-use native.Mathlib.Omega.{arith}
-use lib.Dec.{leb, eqb}
-use lib.ListN.{length, drop, replicate}
-use borrow.Author.Tests.{eq-eqb, ne-eqb, le-leb, not-true, not-false}
-use Rattle.iri.specs.Answers.{Answer, answer}
+use mathlib.Core.List.{List, []}
+use lib.ListN.{length}
+use borrow.Author.Tests.{eq-eqb, ne-eqb, not-true, not-false}
+use Rattle.iri.specs.Answers.{Answer}
 use Rattle.model.specs.Package.{State, empty}
-use Rattle.model.specs.Calls.{Look, Change, Print, Call, Start, Looks, Changes, Prints, Printed, Text, Refused, done, refused, pick, changed, startRefusal, step, look, change, changeRefusal, changeMade, printed, filled, valueCount}
-use Rattle.model.proofs.Steps.{empty-good, change-good}
+use Rattle.model.specs.Calls.{Look, Change, Print, Start, Looks, Changes, Prints, done, refused, changed, startRefusal, look, change, changeRefusal, changeMade, printed, filled, valueCount}
+use Rattle.model.proofs.Steps.{change-good}
 use Rattle.store.specs.Packages.{Shape, isPackage}
 use Rattle.store.proofs.PackageTest.{sound-package, package-shape}
 use Rattle.contract.specs.Holds.{Lies, Holds}
-use Rattle.contract.specs.Ran.{Ran, starts, noPackage, Begun}
+use Rattle.contract.specs.Ran.{Ran, noPackage}
 
 -- what holds an abstract package passes the test
 pub is-package : (b : List ℕ) (S : State) → Holds b S → isPackage b ≡ true

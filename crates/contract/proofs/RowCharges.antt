@@ -1,10 +1,10 @@
 -- The bytes of the rows are the charge, and their number that of the entries.
 -- Assumes nothing.
-use Prim.Native.Nat.{ℕ, suc, _+_, _-_, _≤_}
+use Prim.Native.Nat.{ℕ, _+_, _-_, _≤_}
 use mathlib.Core.Path.{_≡_, refl, ap, sym, _∙_}
 use mathlib.Core.List.{List, [], _∷_, _++_, map}
 use native.Mathlib.Omega.{arith}
-use lib.ListN.{length, take, drop, length-append, length-take, length-drop, length-map}
+use lib.ListN.{length, length-append, length-take, length-drop, length-map}
 use Rattle.names.specs.Items.{itemName}
 use Rattle.names.specs.declared.items.ItemName.{ItemName}
 use Rattle.names.specs.declared.items.ItemName.the-variants.{Named, Refused}
@@ -12,7 +12,7 @@ use Rattle.model.specs.Sets.{Bytes, sumOf}
 use Rattle.model.specs.Fields.{prefixIn, prefixOf}
 use Rattle.model.specs.Package.{Item, Default, Override, Relationship, State, itemCharge, defaultCharge, overrideCharge, relationshipCharge, charge}
 use Rattle.store.specs.Layout.{usedOf, countOf}
-use Rattle.store.specs.Rows.{Row, total, rowSize, rowsOf}
+use Rattle.store.specs.Rows.{Row, total, rowSize}
 use Rattle.store.proofs.Headers.{rows-count}
 use Rattle.contract.specs.Rows.{itemRow, defaultRow, overrideRow, relationshipRow, otherRows, rowsFor}
 use Rattle.contract.specs.Holds.{Holds}

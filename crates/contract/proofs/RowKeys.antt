@@ -1,28 +1,24 @@
 -- The key of an entry's row is the entry's own, with its set in front.
 -- Assumes nothing.
-use Prim.Native.Nat.{ℕ, suc, _+_, _*_, _/_, _≤_, _<_}
-use mathlib.Core.Path.{_≡_, refl, ap, ap₂, sym, _∙_}
-use mathlib.Core.Bool.{Bool, true, false, not, _&&_, _||_, cond, false≢true}
-use mathlib.Core.List.{List, [], _∷_, map}
+use Prim.Native.Nat.{ℕ, _+_, _/_, _≤_, _<_}
+use mathlib.Core.Path.{_≡_, refl}
+use mathlib.Core.Bool.{Bool, true, false, not, _&&_, _||_}
+use mathlib.Core.List.{_∷_}
 use native.Mathlib.Omega.{arith}
-use lib.Dec.{leb, ltb, eqb}
+use lib.Dec.{leb, eqb}
 use lib.ListN.{length, getD}
-use borrow.Author.Tests.{leb-true, lt-ltb, le-ltb, eq-eqb, ne-eqb}
+use borrow.Author.Tests.{leb-true, lt-ltb, le-ltb, ne-eqb}
 use Rattle.chars.specs.Bytes.{slash, openBracket, digit}
 use Rattle.chars.specs.Lists.{none, every, afterLast}
-use Rattle.chars.specs.Folding.{fold, equivalent}
 use Rattle.chars.proofs.Bools.{and-right}
 use Rattle.names.specs.Names.{partName, lastSegment, folder}
 use Rattle.names.specs.Numbers.{value, numeral}
 use Rattle.names.specs.Items.{suffix, suffixWhere, numberText, named, asPiece, asItem, unlessNoSlash, itemName}
 use Rattle.names.specs.declared.items.Suffix.{Suffix}
 use Rattle.names.specs.declared.items.Suffix.the-variants.{Whole, Piece}
-use Rattle.names.specs.declared.items.ItemName.{ItemName}
-use Rattle.names.specs.declared.items.ItemName.the-variants.{Named, Refused}
-use Rattle.model.specs.Sets.{Bytes, Key}
-use Rattle.model.specs.Fields.{suffixIn, suffixOf, prefixOf}
-use Rattle.model.specs.Package.{Item, Default, Override, Relationship, rank, itemKey, keyOfItem, keyOfDefault, keyOfOverride, keyOfRelationship}
-use Rattle.store.specs.Rows.{Row}
+use Rattle.model.specs.Sets.{Bytes}
+use Rattle.model.specs.Fields.{suffixIn, suffixOf}
+use Rattle.model.specs.Package.{Item, Default, Override, Relationship, rank, keyOfItem, keyOfDefault, keyOfOverride, keyOfRelationship}
 use Rattle.contract.specs.Rows.{tagOf, defaultTag, relationshipTag, itemRow, defaultRow, overrideRow, relationshipRow, setOf, second, rowKey}
 
 -- TAGS. A piece's number is at most 9,999, so an item's tag is below those of the other sets

@@ -1,19 +1,19 @@
 -- The rows of a package stand in the order of their keys; a search over them is a search in one set.
 -- Assumes nothing.
-use Prim.Native.Nat.{ℕ, suc, _+_, _≤_, _<_}
+use Prim.Native.Nat.{ℕ, _+_, _<_}
 use mathlib.Core.Path.{_≡_, refl, ap, ap₂, sym, _∙_, subst}
 use mathlib.Core.Bool.{Bool, true, false, not}
 use mathlib.Core.List.{List, [], _∷_, _++_, map}
 use native.Mathlib.Omega.{arith}
 use lib.ListN.{length}
 use Rattle.chars.specs.Folding.{fold}
-use Rattle.model.specs.Sets.{Bytes, Key, keyOrder, isLess, before, any, Each, Pairs, Sorted}
+use Rattle.model.specs.Sets.{Key, isLess, before, Each, Pairs, Sorted}
 use Rattle.model.specs.Places.{firstWhere, bound}
-use Rattle.model.specs.Package.{Item, Default, Override, Relationship, State, keyOfItem, keyOfDefault, keyOfOverride, keyOfRelationship}
+use Rattle.model.specs.Package.{State, keyOfItem, keyOfDefault, keyOfOverride, keyOfRelationship}
 use Rattle.model.specs.Good.{Good}
 use Rattle.model.proofs.Lists.{each-map, none-any}
 use Rattle.model.proofs.Walks.{first-append-none, first-append-stop, first-map}
-use Rattle.store.specs.Rows.{Row, rowsOf}
+use Rattle.store.specs.Rows.{Row}
 use Rattle.contract.specs.Rows.{itemRow, defaultRow, overrideRow, relationshipRow, otherRows, rowsFor, setOf, second, rowKey}
 use Rattle.contract.specs.Holds.{Holds}
 use Rattle.contract.specs.Searches.{Ordered}

@@ -1,19 +1,19 @@
 -- Searching rows: how a row stands to a key, and the search by halving.
 -- Assumes nothing.
-use Prim.Native.Nat.{ℕ, zero, suc, _+_, _-_, _/_, _≤_, _<_}
+use Prim.Native.Nat.{ℕ, _+_, _-_, _/_, _≤_, _<_}
 use mathlib.Core.Path.{_≡_, refl, ap, sym, _∙_}
 use mathlib.Core.Bool.{Bool, true, false, not, cond, true≢false}
 use mathlib.Core.List.{List, [], _∷_}
 use native.Mathlib.Omega.{arith}
 use lib.Dec.{ltb, eqb}
 use lib.ListN.{length, getD}
-use borrow.Author.Tests.{lt-ltb, le-ltb, eq-eqb, ne-eqb, ltb-true, ltb-false, not-true, not-false}
+use borrow.Author.Tests.{lt-ltb, le-ltb, ltb-true, ltb-false, not-true, not-false}
 use Rattle.chars.specs.Folding.{fold, equivalent, order, foldedOrder}
 use Rattle.chars.specs.declared.folding.Order.{Order}
 use Rattle.chars.specs.declared.folding.Order.the-variants.{Less, Equal, Greater}
 use Rattle.chars.proofs.Equivalence.{folded-equal, equivalent-equal}
 use Rattle.model.specs.Sets.{Bytes, Key, thenBy, keyOrder, isLess, isEqual, before, sameKey}
-use Rattle.model.specs.Places.{firstWhere, bound}
+use Rattle.model.specs.Places.{bound}
 use Rattle.model.proofs.Lists.{pairs-at}
 use Rattle.model.proofs.KeyOrders.{before-same}
 use Rattle.model.proofs.Walks.{first-le, first-le-passing, failing-lt-first, first-at}

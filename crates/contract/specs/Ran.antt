@@ -7,7 +7,7 @@ use mathlib.Core.List.{List, [], _∷_}
 use lib.ListN.{length, replicate}
 use Rattle.iri.specs.Answers.{Answer, answer}
 use Rattle.model.specs.Package.{State, empty}
-use Rattle.model.specs.Calls.{Look, Find, View, Totals, Call, Start, Looks, Changes, Prints, done, refused, startRefusal, step, valueCount, lent}
+use Rattle.model.specs.Calls.{Find, View, Totals, Call, Start, Looks, Changes, Prints, done, refused, startRefusal, step, valueCount, lent}
 use Rattle.store.specs.Packages.{isPackage}
 use Rattle.contract.specs.Holds.{Holds}
 

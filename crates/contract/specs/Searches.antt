@@ -10,7 +10,7 @@ use Rattle.model.specs.Places.{bound}
 use Rattle.model.specs.Package.{State}
 use Rattle.chars.specs.declared.folding.Order.{Order}
 use Rattle.store.specs.Layout.{countOf}
-use Rattle.store.specs.Rows.{Row, rowAt, rowsOf}
+use Rattle.store.specs.Rows.{rowAt, rowsOf}
 use Rattle.store.specs.Packages.{Sound}
 use Rattle.contract.specs.Rows.{rowKey}
 use Rattle.contract.specs.Holds.{Holds}

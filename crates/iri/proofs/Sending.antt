@@ -2,7 +2,7 @@
 -- Assumes nothing.
 use Prim.Native.Nat.{ℕ, _+_, _-_, _<_, _≤_, min}
 use mathlib.Core.Path.{_≡_, ap, _∙_, sym, refl, subst}
-use mathlib.Core.Bool.{false, true, Bool}
+use mathlib.Core.Bool.{false, true}
 use mathlib.Core.List.{List, append-assoc, append-nil, [], _++_, _∷_}
 use native.Mathlib.Nat.{zero-add}
 use native.Mathlib.Numerals.{add-one}
@@ -10,9 +10,9 @@ use native.Mathlib.Omega.{arith}
 use lib.Dec.{leb}
 use lib.ListN.{length, set, getD, take, drop, take-append-drop, length-append, length-drop, drop-of-length-le}
 use lib.Seq.{paste, paste-suc, take-length, length-take-le, take-at, drop-append-add, drop-drop, take-append-seam}
-use borrow.Author.Tests.{lt-leb, le-leb, leb-true, leb-false}
+use borrow.Author.Tests.{lt-leb, le-leb}
 use Rattle.chars.proofs.Searches.{take-rest}
-use Rattle.iri.specs.Answers.{Outcome, No, ofWritten, written, Text, writtenWhere, Answer}
+use Rattle.iri.specs.Answers.{Outcome, No, ofWritten, written, Text}
 use Rattle.iri.specs.Scratch.{Sent, Fitted}
 use Rattle.iri.specs.declared.writing.Written.the-variants.{Refused, Short, Bytes}
 use Rattle.iri.proofs.DotTurns.{fits}
@@ -153,32 +153,3 @@ module _ (text out : List ℕ) (n : ℕ) (l : n ≤ length text) where
   pub put-bytes : (m : ℕ) (out' : List ℕ) → n ≤ length out → Sent out 0 (take n text) m out' → ofWritten (Bytes n) out' ≡ written (Text (take n text)) out
   put-bytes m out' f s =
       answer-bytes (Text (take n text)) (take n text) out out' n refl taken-length f (s .fits (omega (arith, taken-length)) ∙ rw (zero-add (length (take n text))))
-
--- what a caller learns from each case of the answer
-pub told-bytes : (t out out' : List ℕ) (n : ℕ) → ofWritten (Bytes n) out' ≡ written (Text t) out → (n ≡ length t) × (n ≤ length out) × (out' ≡ t ++ drop (length t) out)
-told-bytes t out out' n e = go (leb (length t) (length out)) refl e
-  where
-    go : (b : Bool) → leb (length t) (length out) ≡ b → ofWritten (Bytes n) out' ≡ writtenWhere b t out → (n ≡ length t) × (n ≤ length out) × (out' ≡ t ++ drop (length t) out)
-    go true f g =
-        let v : n ∷ [] ≡ length t ∷ [] = ap (λ (a : Answer). a .values) g in
-        let m : n ≡ length t = cc in
-        (m, omega (arith, leb-true (length t) (length out) f), ap (λ (a : Answer). a .output) g)
-    go false f g = let z : _≡_ {A = ℕ} 0 3 = ap (λ (a : Answer). a .number) g in absurd (omega arith)
-
-pub told-short : (t out out' : List ℕ) (n : ℕ) → ofWritten (Short n) out' ≡ written (Text t) out → (n ≡ length t) × (length out < n) × (out' ≡ out)
-told-short t out out' n e = go (leb (length t) (length out)) refl e
-  where
-    go : (b : Bool) → leb (length t) (length out) ≡ b → ofWritten (Short n) out' ≡ writtenWhere b t out → (n ≡ length t) × (length out < n) × (out' ≡ out)
-    go true f g = let z : _≡_ {A = ℕ} 3 0 = ap (λ (a : Answer). a .number) g in absurd (omega arith)
-    go false f g =
-        let v : n ∷ [] ≡ length t ∷ [] = ap (λ (a : Answer). a .values) g in
-        let m : n ≡ length t = cc in
-        (m, omega (arith, leb-false (length t) (length out) f), ap (λ (a : Answer). a .output) g)
-
-pub told-refused : (o : Outcome) (out out' : List ℕ) (k : ℕ) → (k ≡ 0 → ⊥) → ofWritten (Refused k) out' ≡ written o out → out' ≡ out
-told-refused (No j) out out' k z e = ap (λ (a : Answer). a .output) e
-told-refused (Text t) out out' k z e = go (leb (length t) (length out)) e
-  where
-    go : (b : Bool) → ofWritten (Refused k) out' ≡ writtenWhere b t out → out' ≡ out
-    go true g = absurd (z (ap (λ (a : Answer). a .number) g))
-    go false g = ap (λ (a : Answer). a .output) g

@@ -5,7 +5,7 @@ use crate::writing::emit;
 use chars::search::find;
 use chars::search::find_past;
 ghost use mathlib.Core.Path.{_≡_};
-ghost use Prim.Native.Nat.{ℕ, _-_, _≤_};
+ghost use Prim.Native.Nat.{_-_, _≤_};
 ghost use lib.ListN.{length};
 ghost use Rattle.chars.specs.Bytes.{slash};
 ghost use Rattle.chars.specs.Lists.{afterLast};

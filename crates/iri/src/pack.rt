@@ -13,7 +13,7 @@ use names::iris::is_package_iri;
 use names::parts::is_part_name;
 ghost use mathlib.Core.Path.{_≡_};
 ghost use mathlib.Core.List.{_++_};
-ghost use Prim.Native.Nat.{ℕ, _+_, _≤_};
+ghost use Prim.Native.Nat.{_+_, _≤_};
 ghost use mathlib.Core.Bool.{_||_, cond};
 ghost use lib.Dec.{ltb};
 ghost use lib.ListN.{length};

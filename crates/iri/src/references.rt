@@ -10,7 +10,7 @@ use names::iris::is_iri;
 use names::iris::is_package_iri;
 ghost use mathlib.Core.Path.{_≡_};
 ghost use mathlib.Core.List.{_++_};
-ghost use Prim.Native.Nat.{ℕ, _≤_};
+ghost use Prim.Native.Nat.{_≤_};
 ghost use lib.ListN.{length};
 ghost use Rattle.iri.specs.References.{mergedPath, target, resolve};
 ghost use Rattle.iri.specs.Targets.{resolveReference};

@@ -7,7 +7,7 @@ use chars::search::find_past;
 use names::parts::is_reserved;
 ghost use mathlib.Core.Path.{_≡_};
 ghost use mathlib.Core.Bool.{true};
-ghost use Prim.Native.Nat.{ℕ, _≤_};
+ghost use Prim.Native.Nat.{_≤_};
 ghost use lib.ListN.{length};
 ghost use Rattle.names.specs.Names.{reserved};
 ghost use Rattle.iri.specs.Relationships.{relationshipsOf, relationshipsPart, sourcePart};

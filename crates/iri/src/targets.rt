@@ -8,7 +8,7 @@ use names::iris::is_iri;
 use names::parts::is_part_name;
 use names::parts::is_reserved;
 ghost use mathlib.Core.Path.{_≡_};
-ghost use Prim.Native.Nat.{ℕ, _≤_};
+ghost use Prim.Native.Nat.{_≤_};
 ghost use lib.ListN.{length};
 ghost use Rattle.iri.specs.Targets.{sourceRefusal, internal, targetRefusalFrom, resolveTarget};
 ghost use Rattle.iri.specs.Answers.{ofWritten, written};

@@ -1,6 +1,6 @@
 // Writing into a lent output.
 ghost use mathlib.Core.Path.{_≡_};
-ghost use Prim.Native.Nat.{ℕ, _^_, _≤_};
+ghost use Prim.Native.Nat.{_^_, _≤_};
 ghost use lib.ListN.{length, take};
 ghost use Rattle.iri.specs.Answers.{Text, ofWritten, written};
 ghost use Rattle.iri.specs.Scratch.{Sent};

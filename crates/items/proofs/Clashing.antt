@@ -1,21 +1,21 @@
 -- A new item beside the held ones: 10, 12, 11.
 -- Assumes nothing.
-use Prim.Native.Nat.{ℕ, suc, _+_, _-_, _/_, _≤_, _<_}
+use Prim.Native.Nat.{ℕ, _-_, _≤_, _<_}
 use mathlib.Core.Path.{_≡_, refl, ap, ap₂, sym, _∙_, subst}
-use mathlib.Core.Bool.{Bool, true, false, not, _&&_, _||_, cond, true≢false}
-use mathlib.Core.List.{List, [], _∷_, _++_, map}
-use mathlib.Core.Option.{Option, none, some}
+use mathlib.Core.Bool.{Bool, true, false, not, _&&_, _||_, true≢false}
+use mathlib.Core.List.{List, [], map}
+use mathlib.Core.Option.{none}
 use native.Mathlib.Omega.{arith}
 use lib.Dec.{ltb, eqb}
 use lib.ListN.{length, getD, take, length-map}
 use lib.Seq.{take-at}
-use borrow.Author.Tests.{ltb-true, ltb-false, lt-ltb, le-ltb, ne-eqb}
+use borrow.Author.Tests.{ltb-true, ltb-false, lt-ltb, le-ltb}
 use Rattle.chars.specs.Bytes.{slash}
 use Rattle.chars.specs.Folding.{fold, equivalent}
 use Rattle.chars.proofs.Bools.{and-left, and-right}
 use Rattle.model.specs.Sets.{Bytes, before, sameKey, held, lookup, any}
 use Rattle.model.specs.Places.{bound, place}
-use Rattle.model.specs.Fields.{when, first, prefixOf, suffixOf}
+use Rattle.model.specs.Fields.{first, prefixOf, suffixOf}
 use Rattle.model.specs.Package.{State, Item, itemKey, keyOfItem, group, disagrees, grows}
 use Rattle.model.specs.Calls.{clash}
 use Rattle.model.proofs.Lists.{any-map, any-same}
@@ -24,8 +24,7 @@ use Rattle.model.proofs.Sets.{Absent, absent}
 use Rattle.model.proofs.Places.{bound-hit, bound-miss, bound-place, lookup-at}
 use Rattle.model.proofs.Neighbours.{clashing, disagrees-neighbours}
 use Rattle.store.specs.Layout.{countOf}
-use Rattle.store.specs.Rows.{Row, rowAt, tagAt, rowsOf, fieldOf}
-use Rattle.store.specs.Packages.{Sound}
+use Rattle.store.specs.Rows.{Row}
 use Rattle.contract.specs.Rows.{tagOf, itemRow, otherRows, rowsFor, keyIn}
 use Rattle.contract.specs.Holds.{Holds}
 use Rattle.contract.specs.Searches.{Bounded, Counted}

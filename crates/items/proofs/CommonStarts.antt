@@ -1,9 +1,9 @@
 -- How many bytes at the beginning of two texts are the same, folded.
 -- Assumes nothing.
-use Prim.Native.Nat.{ℕ, zero, suc, _+_, _≤_, _<_, min}
+use Prim.Native.Nat.{ℕ, suc, _+_, _≤_, _<_, min}
 use mathlib.Core.Path.{_≡_, refl, ap, ap₂, sym, _∙_}
 use mathlib.Core.Bool.{Bool, true, false, cond}
-use mathlib.Core.List.{List, [], _∷_, _++_, map, map-append}
+use mathlib.Core.List.{List, [], _∷_, _++_, map-append}
 use native.Mathlib.Numerals.{add-one}
 use native.Mathlib.Omega.{arith, min-cases}
 use lib.Dec.{eqb}

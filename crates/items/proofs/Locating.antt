@@ -1,10 +1,10 @@
 -- The row of the item that a name asks for.
 -- Assumes nothing.
-use Prim.Native.Nat.{ℕ, suc, _+_, _*_, _/_, _%_, _≤_, _<_}
+use Prim.Native.Nat.{ℕ, _+_, _*_, _/_, _%_, _≤_, _<_}
 use mathlib.Core.Path.{_≡_, refl, ap, ap₂, sym, _∙_, subst}
 use mathlib.Core.Bool.{Bool, true, false, _&&_, Bool·beq, cond, true≢false}
 use mathlib.Core.List.{List, [], _∷_}
-use mathlib.Core.Option.{Option, none, some}
+use mathlib.Core.Option.{none, some}
 use native.Mathlib.Omega.{arith}
 use lib.Dec.{ltb, eqb}
 use lib.ListN.{length, getD, take}
@@ -23,7 +23,7 @@ use Rattle.model.proofs.Items.{equivalent-comm}
 use Rattle.store.specs.Layout.{countOf}
 use Rattle.store.specs.Rows.{rowAt, tagAt, fieldOf}
 use Rattle.store.specs.Packages.{Shape, Sound}
-use Rattle.contract.specs.Rows.{tagOf, defaultTag, keyIn}
+use Rattle.contract.specs.Rows.{tagOf, keyIn}
 use Rattle.contract.specs.Holds.{Holds}
 use Rattle.contract.specs.Searches.{Bounded}
 use Rattle.contract.proofs.RowKeys.{tag-small, tag-half}

@@ -3,19 +3,19 @@
 use Prim.Native.Nat.{ℕ, zero, suc, _≤_, _<_}
 use mathlib.Core.Path.{_≡_, refl, ap, ap₂, sym, _∙_}
 use mathlib.Core.Bool.{Bool, true, false, cond, true≢false}
-use mathlib.Core.List.{List, [], _∷_}
+use mathlib.Core.List.{[], _∷_}
 use native.Mathlib.Omega.{arith}
 use lib.Dec.{eqb}
-use lib.ListN.{length, take, length-take}
+use lib.ListN.{length, take}
 use lib.Seq.{length-take-le, take-length}
-use borrow.Author.Tests.{eq-eqb, ne-eqb, eqb-true, eqb-false}
+use borrow.Author.Tests.{ne-eqb, eqb-true, eqb-false}
 use Rattle.names.specs.Names.{reserved}
 use Rattle.names.specs.Items.{itemName, itemRefusal}
 use Rattle.names.specs.declared.items.Suffix.{Suffix}
 use Rattle.names.specs.declared.items.ItemName.{ItemName}
 use Rattle.names.specs.declared.items.ItemName.the-variants as apart
 use Rattle.model.specs.Sets.{Bytes}
-use Rattle.model.specs.Fields.{when, first, prefixIn, prefixOf, suffixOf, askedField, itemField}
+use Rattle.model.specs.Fields.{first, prefixIn, prefixOf, suffixOf, askedField, itemField}
 use Rattle.model.proofs.ItemNames.{prefix-named, suffix-named, prefix-part, refused-number}
 use Rattle.contract.specs.Rows.{tagOf, defaultTag}
 use Rattle.contract.proofs.RowKeys.{tag-small}

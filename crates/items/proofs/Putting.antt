@@ -1,21 +1,18 @@
 -- The refusal of a put, and the rows after it.
 -- Assumes nothing.
-use Prim.Native.Nat.{ℕ, suc, _+_, _-_, _≤_, _<_}
-use mathlib.Core.Path.{_≡_, refl, ap, ap₂, sym, _∙_, subst}
+use Prim.Native.Nat.{ℕ, _+_, _-_, _≤_, _<_}
+use mathlib.Core.Path.{_≡_, refl, ap, sym, _∙_}
 use mathlib.Core.Bool.{Bool, true, false, _||_, cond}
-use mathlib.Core.List.{List, [], _∷_, _++_, map}
-use native.Mathlib.Nat.{zero-add}
 use native.Mathlib.Omega.{arith}
 use lib.Dec.{leb, ltb, eqb}
-use lib.ListN.{length, take, drop}
+use lib.ListN.{length}
 use borrow.Author.Tests.{le-leb, lt-leb, lt-ltb, le-ltb, ne-eqb, eqb-true}
-use Rattle.model.specs.Sets.{Bytes, insert, remove}
-use Rattle.model.specs.Fields.{when, first, prefixOf, suffixOf, itemField}
-use Rattle.model.specs.Package.{State, Item, itemLimit, itemKey, keyOfItem, charge}
-use Rattle.model.specs.Calls.{clash, noRoom, putItemRefusal, withItems}
+use Rattle.model.specs.Sets.{Bytes}
+use Rattle.model.specs.Fields.{when, first, itemField}
+use Rattle.model.specs.Package.{State, itemLimit, charge}
+use Rattle.model.specs.Calls.{clash, noRoom, putItemRefusal}
 use Rattle.store.specs.Layout.{countOf, usedOf, capOf}
-use Rattle.store.specs.Packages.{Shape, Room}
-use Rattle.contract.specs.Rows.{otherRows, keyIn}
+use Rattle.contract.specs.Rows.{keyIn}
 use Rattle.contract.specs.Holds.{Holds}
 use Rattle.contract.specs.Searches.{Bounded, Counted}
 use Rattle.contract.proofs.RowCharges.{used-charge, count-rows, length-others}

@@ -8,9 +8,7 @@ use lib.ListN.{length}
 use Rattle.model.specs.Sets.{Bytes}
 use Rattle.model.specs.Calls.{Looks, View}
 use Rattle.store.specs.Buffer.{part, num4}
-use Rattle.store.specs.Layout.{heapStart, slotCount, countOf, slotOf}
-use Rattle.store.specs.Rows.{rowAt, fieldOf}
-use Rattle.store.specs.Packages.{Sound}
+use Rattle.store.specs.Layout.{slotOf}
 use Rattle.store.proofs.Reading.{read-2}
 use Rattle.contract.specs.Answers.{ofView}
 use Rattle.contract.specs.Ran.{Ran}

@@ -4,7 +4,6 @@ use Prim.Native.Nat.{ℕ, _+_, _≤_, _<_}
 use mathlib.Core.Path.{_≡_}
 use mathlib.Core.List.{List}
 use lib.ListN.{length}
-use Rattle.model.specs.Sets.{Bytes}
 use Rattle.model.specs.Calls.{Looks, View}
 use Rattle.store.specs.Buffer.{part}
 use Rattle.store.specs.Layout.{countOf}

@@ -2,14 +2,14 @@
 -- Assumes nothing.
 use Prim.Native.Nat.{ℕ, _≤_, _<_}
 use mathlib.Core.Path.{_≡_}
-use mathlib.Core.Bool.{Bool, cond}
+use mathlib.Core.Bool.{cond}
 use mathlib.Core.List.{List}
-use mathlib.Core.Option.{Option, none, some}
+use mathlib.Core.Option.{none, some}
 use lib.Dec.{eqb}
 use lib.ListN.{length, getD}
 use Rattle.model.specs.Sets.{Bytes}
 use Rattle.model.specs.Fields.{prefixOf, suffixOf}
-use Rattle.model.specs.Package.{State, Item, itemKey, keyOfItem, itemAt}
+use Rattle.model.specs.Package.{State, itemKey, keyOfItem, itemAt}
 use Rattle.model.specs.Places.{spot}
 use Rattle.store.specs.Layout.{countOf}
 use Rattle.contract.specs.Rows.{tagOf}

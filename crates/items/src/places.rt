@@ -5,10 +5,6 @@ use crate::wanted::locate;
 use store::header::count;
 use store::header::is_package;
 use store::slots::number;
-ghost use Rattle.model.specs.Calls.{Call, Look};
-ghost use Rattle.store.specs.Buffer.{part};
-ghost use Rattle.contract.specs.Answers.{ofView};
-ghost use Rattle.contract.specs.Ran.{Ran};
 ghost use Rattle.items.specs.Spans.{BytesOf, Viewed};
 
 // The bytes from `at` on, `length` of them.

@@ -1,26 +1,25 @@
 -- An item name put together in lower case is taken apart into what it was made of.
 -- Assumes nothing.
-use mathlib.Core.Path.{_≡_, refl, sym, ap, _∙_}
-use mathlib.Core.Bool.{Bool, true, false, not, _&&_, _||_, cond, false≢true}
-use mathlib.Core.List.{List, [], _∷_, _++_, append-assoc}
+use mathlib.Core.Path.{_≡_, refl, ap, _∙_}
+use mathlib.Core.Bool.{Bool, true, false, not, _&&_, _||_, cond}
+use mathlib.Core.List.{List, [], _∷_, _++_}
 use Prim.Native.Nat.{ℕ, zero, suc, _+_, _-_, _*_, _/_, _%_, _^_, _≤_, _<_}
 use native.Mathlib.Nat.{pow-suc}
 use native.Mathlib.Omega.{arith}
 use native.Mathlib.Numerals.{add-one}
 use lib.Dec.{leb, ltb, eqb, eqb·suc-zero}
-use lib.ListN.{length, take, drop, getD, length-append, List·getD-append, List·getD-eq-default}
+use lib.ListN.{length, take, drop, getD, length-append, List·getD-append}
 use lib.Seq.{take-append-seam, drop-append-seam, drop-append-add, getD-drop}
-use borrow.Author.Tests.{leb-true, le-leb, lt-ltb, le-ltb, ltb-true, ltb-false, ne-eqb, not-true}
+use borrow.Author.Tests.{le-leb, lt-ltb, ltb-true, ltb-false, ne-eqb, not-true}
 use Rattle.chars.specs.Bytes.{ascii, slash, openBracket, closeBracket, digit, letter, hexDigit, unreserved, segmentByte}
 use Rattle.chars.specs.Lists.{same, every, firstOf, indexOf, afterLast}
 use Rattle.chars.specs.Folding.{lower, equivalent}
-use Rattle.chars.proofs.Bools.{and-true, and-right-true}
+use Rattle.chars.proofs.Bools.{and-true}
 use Rattle.chars.proofs.Searches.{index-append, last-none, last-append, last-pos, every-append, every-imp, every-getD}
 use Rattle.chars.proofs.UnitBytes.{but, class-but}
 use Rattle.names.specs.Names.{partName}
 use Rattle.names.specs.Numbers.{value, numeral, digits, decimal4}
 use Rattle.names.specs.Items.{suffix, itemName, lastText, spelled}
-use Rattle.names.specs.declared.items.Suffix.{Suffix}
 use Rattle.names.specs.declared.items.Suffix.the-variants.{Whole, Piece}
 use Rattle.names.specs.declared.items.ItemName.the-variants.{Named}
 use Rattle.names.proofs.NameBytes.{name-slash, name-but}

@@ -1,11 +1,10 @@
 -- A suffix and an item name, from what the judges of their parts ensure.
 -- Assumes nothing.
-use mathlib.Core.Path.{_≡_, refl, sym, _∙_}
+use mathlib.Core.Path.{_≡_, refl, _∙_}
 use mathlib.Core.Bool.{Bool, true, false, _&&_, _||_}
 use mathlib.Core.List.{List}
 use Prim.Native.Nat.{ℕ, _+_, _-_, _≤_}
 use native.Mathlib.Omega.{arith}
-use lib.Dec.{eqb}
 use lib.ListN.{length, take, drop, getD}
 use lib.Seq.{length-take-le}
 use borrow.Author.Tests.{eq-eqb, ne-eqb}
@@ -13,7 +12,7 @@ use Rattle.chars.specs.Bytes.{ascii, slash, openBracket, closeBracket}
 use Rattle.chars.specs.Lists.{indexOf, afterLast}
 use Rattle.chars.specs.Folding.{equivalent}
 use Rattle.chars.proofs.Searches.{take-rest, index-le, index-found, last-le}
-use Rattle.names.specs.Names.{partName, folder}
+use Rattle.names.specs.Names.{partName}
 use Rattle.names.specs.Numbers.{value, numeral, readNumber}
 use Rattle.names.specs.Items.{suffixWhere, suffix, named, asPiece, itemName}
 use Rattle.names.specs.declared.items.Suffix.{Suffix}

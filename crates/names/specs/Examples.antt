@@ -2,9 +2,8 @@
 -- Assumes nothing.
 use Prim.Native.Nat.{ℕ}
 use mathlib.Core.Path.{_≡_, refl}
-use mathlib.Core.Bool.{Bool, cond, _||_}
+use mathlib.Core.Bool.{cond, _||_}
 use mathlib.Core.List.{List, [], _∷_, map}
-use lib.Dec.{eqb}
 use lib.ListN.{take}
 use Rattle.chars.specs.Bytes.{ascii, digit, letter, hexDigit, unreserved, segmentByte, continuation, member}
 use Rattle.chars.specs.Lists.{same, begins, every, firstOf, afterLast, lastByte, split, tiled}

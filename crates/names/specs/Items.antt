@@ -1,8 +1,8 @@
 -- Item names: "a part name (a whole item), or a part name, the prefix, then `/[k].piece` or `/[k].last.piece`, letters of either case".
 -- Assumes nothing.
 use Prim.Native.Nat.{ℕ, _-_}
-use mathlib.Core.Bool.{Bool, true, false, not, _&&_, _||_, cond}
-use mathlib.Core.List.{List, [], _∷_, _++_}
+use mathlib.Core.Bool.{Bool, true, false, _&&_, _||_}
+use mathlib.Core.List.{List, _++_}
 use lib.Dec.{eqb}
 use lib.ListN.{length, getD, take, drop}
 use Rattle.chars.specs.Bytes.{ascii, slash, openBracket, closeBracket}

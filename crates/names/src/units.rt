@@ -5,7 +5,7 @@ use chars::search::is_hex_digit;
 use chars::units::Grammar;
 use chars::units::hex_value;
 ghost use mathlib.Core.Path.{_≡_};
-ghost use Rattle.chars.specs.Bytes.{within, hexDigit, unreserved, continuation};
+ghost use Rattle.chars.specs.Bytes.{within, unreserved, continuation};
 ghost use Rattle.chars.specs.Classes.{classes};
 ghost use Rattle.chars.specs.Lists.{tiled};
 ghost use Rattle.chars.specs.Characters.{ucschar, char2, char3, char4, nameTriplet, single, triplet, longUnit, unit};

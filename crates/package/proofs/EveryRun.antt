@@ -3,22 +3,21 @@
 use Prim.Native.Nat.{ℕ}
 use mathlib.Core.Path.{_≡_, refl, ap, ap₂, sym, _∙_, subst}
 use mathlib.Core.Bool.{Bool, true, false, false≢true}
-use mathlib.Core.List.{List, [], _∷_, map}
+use mathlib.Core.List.{List, _∷_}
 use lib.Dec.{eqb}
 use lib.ListN.{length}
 use borrow.Author.Tests.{eqb-true, eqb-false}
-use Rattle.chars.specs.Folding.{equivalent, derivable}
 use Rattle.iri.specs.Answers.{Answer}
 use Rattle.chars.specs.declared.folding.Order.{Order}
 use Rattle.chars.specs.declared.folding.Order.the-variants.{Less, Equal, Greater}
-use Rattle.model.specs.Sets.{Key, keyOrder, isLess, isEqual, sumOf, Pairs}
-use Rattle.model.specs.Package.{Item, State, empty, itemLimit, defaultLimit, overrideLimit, relationshipLimit, keyOfItem, keyOfDefault, keyOfOverride, keyOfRelationship, charge}
-use Rattle.model.specs.Calls.{Call, Start, startRefusal, step, answers, after, look}
+use Rattle.model.specs.Sets.{Key, keyOrder, isLess, isEqual}
+use Rattle.model.specs.Package.{State, empty, itemLimit, defaultLimit, overrideLimit, relationshipLimit, keyOfItem, keyOfDefault, keyOfOverride, keyOfRelationship, charge}
+use Rattle.model.specs.Calls.{Call, startRefusal, step, answers, after, look}
 use Rattle.model.specs.Good.{Good, GoodSet, Beside, fieldsOfItem, fieldsOfDefault, fieldsOfOverride, fieldsOfRelationship}
 use Rattle.model.proofs.Lists.{pairs-map}
 use Rattle.contract.specs.Holds.{Holds}
-use Rattle.contract.specs.Ran.{Ran, Runs, none, more}
-use Rattle.package.specs.Demand.{Limited, Demanded, callsOf, answersOf, AsLedger, EveryRun}
+use Rattle.contract.specs.Ran.{Runs, none, more}
+use Rattle.package.specs.Demand.{Limited, Demanded, AsLedger, EveryRun}
 
 less-differs : (o : Order) → isLess o ≡ true → isEqual o ≡ false
 less-differs Less e = refl

@@ -2,6 +2,7 @@
 use commands::feeding::feed;
 use commands::feeding::finish;
 use items::calls::start;
+use libc::STDERR_FILENO;
 use libc::STDIN_FILENO;
 use libc::STDOUT_FILENO;
 ghost use Prim.Native.Nat.{_+_, _≤_, _<_};
@@ -12,10 +13,17 @@ ghost use Rattle.commands.specs.Inputs.{sheetCapacity, Ready};
 
 const CAPACITY: u64 = 30000;
 
+// Says on the error output what failed: a program has no other status than 0.
+fn complain(text: &[u8]) {
+    io::write_all(STDERR_FILENO, text);
+}
+
 fn print(out: &[u8], n: usize)
     requires { ⌜ n ≤ length (now out) ⌝ }
 {
-    io::write_all(STDOUT_FILENO, &out[..n]);
+    if !io::write_all(STDOUT_FILENO, &out[..n]) {
+        complain(b"sheet: output could not be written\n");
+    }
 }
 
 // Runs the lines of a piece of the input, which goes on with the n bytes of a line. How many bytes of a line are left over.
@@ -46,6 +54,9 @@ fn run_some(
     ensures { λ _. ⌜ Ready (now (pkg .exit)) (now (line .exit)) (now (n .exit)) (now (out .exit)) ⌝ }
 {
     let got = libc::read(STDIN_FILENO, piece);
+    if got < 0 {
+        complain(b"sheet: input could not be read\n");
+    }
     let k = io::count(got, piece);
     if k == 0 {
         return false;

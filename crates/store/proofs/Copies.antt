@@ -5,7 +5,7 @@ use Prim.Native.Nat.{ℕ, suc, _+_, _-_, _/_, _%_, _≤_, _<_}
 use mathlib.Core.List.{List, [], _∷_, _++_, append-assoc}
 use native.Mathlib.Omega.{arith}
 use native.Mathlib.Numerals.{add-one, towards-suc}
-use lib.ListN.{length, take, drop, getD, set, length-append, length-drop}
+use lib.ListN.{length, take, drop, getD, set, length-append}
 use lib.Seq.{length-take-le, take-suc, drop-cons, append-snoc, set-at, paste-zero, sets-eq}
 use Rattle.store.specs.Buffer.{splice, le4}
 
@@ -24,25 +24,11 @@ module _ (l : List ℕ) (a : ℕ) (t : List ℕ) (x : ℕ) where
       ∙ ap (λ (r : List ℕ). r ++ rest) (append-assoc (take a l) t (x ∷ []))
       ∙ ap (λ (k : ℕ). take a l ++ (t ++ (x ∷ [])) ++ drop k l) (sym e2)
 
-  pub set-prev : suc a + length t ≤ length l → set (splice l (suc a) t) a x ≡ splice l a (x ∷ t)
-  unfolding splice
-  set-prev h =
-      let y : ℕ = getD l a 0 in
-      let rest : List ℕ = drop (suc a + length t) l in
-      let e : length (take a l) ≡ a = length-take-le a l (omega arith) in
-      let e2 : suc a + length t ≡ a + suc (length t) = omega arith in
-      ap (λ (r : List ℕ). set (r ++ t ++ rest) a x) (take-suc l a 0 (omega arith))
-      ∙ ap (λ (r : List ℕ). set (r ++ rest) a x) (append-snoc (take a l) y t)
-      ∙ ap (λ (r : List ℕ). set r a x) (append-assoc (take a l) (y ∷ t) rest)
-      ∙ set-at (take a l) y (t ++ rest) x a e
-      ∙ sym (append-assoc (take a l) (x ∷ t) rest)
-      ∙ ap (λ (k : ℕ). take a l ++ (x ∷ t) ++ drop k l) e2
-
 pub splice-nil : (l : List ℕ) (a : ℕ) → l ≡ splice l a []
 unfolding splice
 splice-nil l a = paste-zero l a []
 
--- the turn of a loop that copies upwards, and of one that copies downwards
+-- the turn of a loop that copies byte by byte
 module _ (l : List ℕ) (a : ℕ) (s : List ℕ) (i : ℕ) where
   pub copy-turn : i < length s → a + length s ≤ length l → set (splice l a (take i s)) (a + i) (getD s i 0) ≡ splice l a (take (i + 1) s)
   copy-turn q h =
@@ -50,15 +36,6 @@ module _ (l : List ℕ) (a : ℕ) (s : List ℕ) (i : ℕ) where
       ap (λ (k : ℕ). set (splice l a (take i s)) (a + k) (getD s i 0)) (sym e)
       ∙ set-next l a (take i s) (getD s i 0) (omega arith)
       ∙ ap (splice l a) (sym (take-suc s i 0 q) ∙ ap (λ (k : ℕ). take k s) (sym (add-one i)))
-
-  pub copy-turn-down : i < length s → a + length s ≤ length l → set (splice l (a + (i + 1)) (drop (i + 1) s)) (a + i) (getD s i 0) ≡ splice l (a + i) (drop i s)
-  copy-turn-down q h =
-      let e : length (drop (suc i) s) ≡ length s - suc i = length-drop (suc i) s in
-      let e2 : a + (i + 1) ≡ suc (a + i) = omega arith in
-      ap (λ (k : ℕ). set (splice l k (drop (i + 1) s)) (a + i) (getD s i 0)) e2
-      ∙ ap (λ (k : ℕ). set (splice l (suc (a + i)) (drop k s)) (a + i) (getD s i 0)) (add-one i)
-      ∙ set-prev l (a + i) (drop (suc i) s) (getD s i 0) (omega arith)
-      ∙ ap (splice l (a + i)) (sym (drop-cons s i 0 q))
 
 -- four stores are one splice
 pub put4-stores : (l : List ℕ) (a v : ℕ) → a + 4 ≤ length l

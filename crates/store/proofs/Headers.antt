@@ -6,9 +6,8 @@ use mathlib.Core.List.{List, _++_}
 use native.Mathlib.Omega.{arith}
 use lib.ListN.{length, getD}
 use Rattle.store.specs.Buffer.{part, num4, le4}
-use Rattle.store.specs.Layout.{slotCount, formatOf, capOf, countOf}
-use Rattle.store.specs.Rows.{noRow, rowsOf, rowAt, total}
-use Rattle.store.specs.Packages.{Sound, Room}
+use Rattle.store.specs.Layout.{formatOf, countOf}
+use Rattle.store.specs.Rows.{noRow, rowsOf, rowAt}
 use Rattle.store.proofs.Parts.{getD-part}
 use Rattle.store.proofs.Writes.{part-part}
 use Rattle.store.proofs.Tabulated.{length-tabulate, getD-tabulate}
@@ -36,12 +35,6 @@ rows-count b = length-tabulate (countOf b) (rowAt b)
 
 pub row-getD : (b : List ℕ) (i : ℕ) → i < countOf b → getD (rowsOf b) i noRow ≡ rowAt b i
 row-getD b i h = getD-tabulate (countOf b) (rowAt b) i h
-
--- room for a row, told from the rows alone
-pub rows-room : (b : List ℕ) (r k : ℕ) → Sound b → r ≤ length (rowsOf b) → length (rowsOf b) < slotCount → total (rowsOf b) + k ≤ capOf b → Room b r k
-rows-room b r k so h q f =
-    let c = rows-count b in
-    record { at = omega arith; more = omega arith; fits = omega (arith, so .exact) }
 
 -- two buffers with the same first eight bytes have the same mark and format
 pub kind-same : (b m : List ℕ) → 8 ≤ length b → 8 ≤ length m → part 0 8 m ≡ part 0 8 b → (part 0 7 m ≡ part 0 7 b) × (formatOf m ≡ formatOf b)

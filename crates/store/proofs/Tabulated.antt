@@ -47,24 +47,12 @@ getD-tabulate zero f i h = absurd (omega arith)
 getD-tabulate (suc n) f zero h = refl
 getD-tabulate (suc n) f (suc i) h = getD-tabulate n (λ k. f (suc k)) i (omega arith)
 
--- a row put in, or taken out: the number of rows, and their size
-pub length-insert : (r : ℕ) (x : Row) (l : List Row) → length (insertAt r x l) ≡ length l + 1
-unfolding insertAt
-length-insert zero x l = omega arith
-length-insert (suc r) x [] = refl
-length-insert (suc r) x (y ∷ l) = let e = length-insert r x l in omega arith
-
+-- a row put in, or taken out: the size of the rows
 pub total-insert : (r : ℕ) (x : Row) (l : List Row) → total (insertAt r x l) ≡ rowSize x + total l
 unfolding total insertAt
 total-insert zero x l = refl
 total-insert (suc r) x [] = refl
 total-insert (suc r) x (y ∷ l) = let e = total-insert r x l in omega arith
-
-pub length-remove : (r : ℕ) (l : List Row) → r < length l → length (removeAt r l) + 1 ≡ length l
-unfolding removeAt
-length-remove r [] h = absurd (omega arith)
-length-remove zero (y ∷ l) h = omega arith
-length-remove (suc r) (y ∷ l) h = let e = length-remove r l (omega arith) in rw (suc-add r 1) (omega arith)
 
 pub total-remove : (r : ℕ) (l : List Row) → r < length l → total (removeAt r l) + rowSize (getD l r noRow) ≡ total l
 unfolding total removeAt

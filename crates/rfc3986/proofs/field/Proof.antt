@@ -1,5 +1,3 @@
-use lib.ListN.{length}
-use Prim.Native.Nat.{_≤_}
 use native.Mathlib.Omega.{arith}
 use Rattle.chars.proofs.Splits.{stretch-le}
 use borrow.Author.Needs.{needs}

@@ -1,4 +1,4 @@
-use mathlib.Core.Path.{refl, sym, _∙_}
+use mathlib.Core.Path.{sym, _∙_}
 use Rattle.names.proofs.Suffixes.{suffix-le, suffix-none, suffix-is}
 use borrow.Author.Needs.{needs}
 use Rattle.names.proofs.items.read_suffix.Statement.{statement}
