@@ -8,7 +8,8 @@ use lib.ListN.{length}
 use borrow.Author.Tests.{eq-eqb, ne-eqb, not-true, not-false}
 use Rattle.iri.specs.Answers.{Answer}
 use Rattle.model.specs.Package.{State, empty}
-use Rattle.model.specs.Calls.{Look, Change, Print, Start, Looks, Changes, Prints, done, refused, changed, startRefusal, look, change, changeRefusal, changeMade, printed, filled, valueCount}
+use Rattle.model.specs.Calls.{Look, Change, Print, Start, Looks, Changes, Prints, done, refused, changed, Numbered, startRefusal, look, change, changeRefusal, changeMade, printed, filled, valueCount}
+use Rattle.model.proofs.Numbers.{zero-numbered, change-numbered}
 use Rattle.model.proofs.Steps.{change-good}
 use Rattle.store.specs.Packages.{Shape, isPackage}
 use Rattle.store.proofs.PackageTest.{sound-package, package-shape}
@@ -20,35 +21,39 @@ pub is-package : (b : List ℕ) (S : State) → Holds b S → isPackage b ≡ tr
 is-package b S h = sound-package b (h .lies .sound)
 
 module _ (p : List ℕ) (f : isPackage p ≡ false) where
+  passes : isPackage p ≡ true → {A : Type 0} → A
+  passes t = absurd (true≢false (sym t ∙ f))
+
   never : (S : State) → Holds p S → {A : Type 0} → A
-  never S h = absurd (true≢false (sym (is-package p S h) ∙ f))
+  never S h = passes (is-package p S h)
 
   -- the buffer is no package
   pub looks-foreign : (q : Look) → noPackage (Looks q) .output ≡ [] → Ran (Looks q) p (noPackage (Looks q)) p
-  looks-foreign q o = record { ledger = λ S h. never S h; kept = λ _. (refl, o); foreign = λ _ _. refl; begun = tt; sized = refl }
+  looks-foreign q o = record { ledger = λ S h. never S h; kept = λ _. (refl, o); foreign = λ _ _. refl; numbered = λ _ t. passes t; begun = tt; sized = refl }
 
   pub changes-foreign : (c : Change) → Ran (Changes c) p (refused 1) p
-  changes-foreign c = record { ledger = λ S h. never S h; kept = λ _. (refl, refl); foreign = λ _ _. refl; begun = tt; sized = refl }
+  changes-foreign c = record { ledger = λ S h. never S h; kept = λ _. (refl, refl); foreign = λ _ _. refl; numbered = λ _ t. passes t; begun = tt; sized = refl }
 
   pub prints-foreign : (w : Print) (output : List ℕ) → Ran (Prints w output) p (noPackage (Prints w output)) p
-  prints-foreign w output = record { ledger = λ S h. never S h; kept = λ _. (refl, refl); foreign = λ _ _. refl; begun = tt; sized = refl }
+  prints-foreign w output = record { ledger = λ S h. never S h; kept = λ _. (refl, refl); foreign = λ _ _. refl; numbered = λ _ t. passes t; begun = tt; sized = refl }
 
 module _ (p : List ℕ) (t : isPackage p ≡ true) where
   -- a call that only looks
-  pub looked : (q : Look) (a : Answer) → ((a .number ≡ 0 → ⊥) → a .output ≡ []) → ((S : State) → Holds p S → a ≡ look S q) → Ran (Looks q) p a p
-  looked q a o e = record { ledger = λ S h. (e S h, h); kept = λ r. (refl, o r); foreign = λ _ f. absurd (true≢false (sym t ∙ f)); begun = tt; sized = refl }
+  pub looked : (q : Look) (a : Answer) → Numbered (a .number) → ((a .number ≡ 0 → ⊥) → a .output ≡ []) → ((S : State) → Holds p S → a ≡ look S q) → Ran (Looks q) p a p
+  looked q a n o e = record { ledger = λ S h. (e S h, h); kept = λ r. (refl, o r); foreign = λ _ f. absurd (true≢false (sym t ∙ f)); numbered = λ _ _. n; begun = tt; sized = refl }
 
   -- a call that writes into its output
-  pub wrote : (w : Print) (output : List ℕ) (a : Answer) → ((a .number ≡ 0 → ⊥) → a .output ≡ output) →
+  pub wrote : (w : Print) (output : List ℕ) (a : Answer) → Numbered (a .number) → ((a .number ≡ 0 → ⊥) → a .output ≡ output) →
       ((S : State) → Holds p S → a ≡ filled (valueCount w) output (printed S (length output) w)) → Ran (Prints w output) p a p
-  wrote w output a o e = record { ledger = λ S h. (e S h, h); kept = λ r. (refl, o r); foreign = λ _ f. absurd (true≢false (sym t ∙ f)); begun = tt; sized = refl }
+  wrote w output a n o e = record { ledger = λ S h. (e S h, h); kept = λ r. (refl, o r); foreign = λ _ f. absurd (true≢false (sym t ∙ f)); numbered = λ _ _. n; begun = tt; sized = refl }
 
   -- a change that is refused
-  pub change-refused : (c : Change) (n : ℕ) → ((S : State) → Holds p S → change S c ≡ (refused n, S)) → Ran (Changes c) p (refused n) p
-  change-refused c n e = record {
+  pub change-refused : (c : Change) (n : ℕ) → Numbered n → ((S : State) → Holds p S → change S c ≡ (refused n, S)) → Ran (Changes c) p (refused n) p
+  change-refused c n u e = record {
     ledger = λ S h. (ap (λ (x : Answer × State). x .0) (sym (e S h)), subst (λ (x : Answer × State). Holds p (x .1)) (sym (e S h)) h);
     kept = λ r. (refl, refl);
     foreign = λ _ f. absurd (true≢false (sym t ∙ f));
+    numbered = λ _ _. u;
     begun = tt;
     sized = refl;
   }
@@ -59,6 +64,7 @@ module _ (p : List ℕ) (t : isPackage p ≡ true) where
     ledger = λ S h. (sym (e S h .0), record { lies = e S h .1; good = change-good S c (h .good) });
     kept = λ r. absurd (r refl);
     foreign = λ _ f. absurd (true≢false (sym t ∙ f));
+    numbered = λ _ _. zero-numbered;
     begun = tt;
     sized = l;
   }
@@ -75,6 +81,7 @@ started C p q e l h = record {
   ledger = λ S _. subst (λ (x : Answer × State). (done ≡ x .0) × Holds q (x .1)) (sym (changed-made (startRefusal (length p) C) S (empty C) e)) (refl, h);
   kept = λ r. absurd (r refl);
   foreign = λ s _. absurd (true≢false s);
+  numbered = λ s _. absurd (true≢false s);
   begun = ((λ _. (refl, h)), (λ r. absurd (r e)));
   sized = l;
 }
@@ -86,17 +93,19 @@ start-refused C p n e z =
       ledger = λ S h. subst (λ (x : Answer × State). (refused n ≡ x .0) × Holds p (x .1)) (sym (changed-refused (startRefusal (length p) C) S (empty C) z′)) (ap refused (sym e), h);
       kept = λ _. (refl, refl);
       foreign = λ s _. absurd (true≢false s);
+      numbered = λ s _. absurd (true≢false s);
       begun = ((λ y. absurd (z′ y)), (λ _. ap refused (sym e)));
       sized = refl;
     }
 
 -- a change whose answer and bytes are the ledger's, made or refused
-pub ran-changed : (p : List ℕ) → isPackage p ≡ true → (c : Change) (a : Answer) (q : List ℕ) → length q ≡ length p → ((a .number ≡ 0 → ⊥) → (q ≡ p) × (a .output ≡ [])) →
+pub ran-changed : (p : List ℕ) → isPackage p ≡ true → (c : Change) (a : Answer) (q : List ℕ) → length q ≡ length p → Numbered (a .number) → ((a .number ≡ 0 → ⊥) → (q ≡ p) × (a .output ≡ [])) →
     ((S : State) → Holds p S → (a ≡ change S c .0) × Lies q (change S c .1)) → Ran (Changes c) p a q
-ran-changed p t c a q l k e = record {
+ran-changed p t c a q l n k e = record {
   ledger = λ S h. (e S h .0, record { lies = e S h .1; good = change-good S c (h .good) });
   kept = k;
   foreign = λ _ f. absurd (true≢false (sym t ∙ f));
+  numbered = λ _ _. n;
   begun = tt;
   sized = l;
 }
@@ -104,7 +113,7 @@ ran-changed p t c a q l k e = record {
 -- a change that is refused by its fields
 pub field-refused : (p : List ℕ) → isPackage p ≡ true → (c : Change) (n : ℕ) → (n ≡ 0 → ⊥) → ((S : State) → changeRefusal S c ≡ n) → Ran (Changes c) p (refused n) p
 unfolding change
-field-refused p t c n z e = change-refused p t c n (λ S h. ap (λ (j : ℕ). changed j S (changeMade S c)) (e S) ∙ changed-refused n S (changeMade S c) z)
+field-refused p t c n z e = change-refused p t c n (subst Numbered (e (empty 0)) (change-numbered (empty 0) c)) (λ S h. ap (λ (j : ℕ). changed j S (changeMade S c)) (e S) ∙ changed-refused n S (changeMade S c) z)
 
 -- x is the test of the buffer
 module _ (p : List ℕ) (x : Bool) (ex : x ≡ isPackage p) where

@@ -12,6 +12,7 @@ use borrow.Author.Tests.{lt-ltb, le-ltb, le-leb, lt-leb, leb-true, leb-false, lt
 use Rattle.model.specs.Sets.{Bytes, Key, sameKey, held, lookup, insert, remove}
 use Rattle.model.specs.Places.{bound, place, spot}
 use Rattle.model.specs.Calls.{done, refused}
+use Rattle.model.proofs.Numbers.{numbered, zero-numbered}
 use Rattle.model.proofs.Bools.{not-passing}
 use Rattle.model.proofs.KeyOrders.{same-key-sym}
 use Rattle.model.proofs.Sets.{absent}
@@ -105,6 +106,7 @@ module _ (b : List ℕ) (k : Key) (r m : ℕ) (er : Sought b k r) (em : m ≡ co
   pub drop-missing : m ≤ r → Dropped b k (refused 13) b
   drop-missing l = record {
     kept = λ _. (refl, refl);
+    numbered = numbered 13 (omega arith) (omega arith);
     missing = λ _ _. refl;
     made = λ q h. absurd (true≢false (sym h ∙ held-is q ∙ le-ltb r m l));
   }
@@ -125,6 +127,7 @@ module _ (b : List ℕ) (k : Key) (r m : ℕ) (er : Sought b k r) (em : m ≡ co
   pub drop-done : (q : List ℕ) → r < m → (Sound b → Removed b q r) → Dropped b k done q
   drop-done q l rm = record {
     kept = λ z. absurd (z refl);
+    numbered = zero-numbered;
     missing = λ o h. absurd (true≢false (sym (held-is o ∙ lt-ltb r m l) ∙ h));
     made = λ o h. (refl, removed-is q l (rm (o .sound)) o);
   }
@@ -144,6 +147,7 @@ module _ (b : List ℕ) (limit t : ℕ) (f0 f1 f2 f3 : Bytes) (m set r : ℕ) (e
     clear = λ q h _ _. absurd (true≢false (sym (taken-is q ∙ lt-ltb r m l) ∙ h));
     room = λ z. absurd (omega arith);
     free = λ z _. absurd (omega arith);
+    numbered = numbered 10 (omega arith) (omega arith);
   }
 
   module _ (l : m ≤ r) where
@@ -158,6 +162,7 @@ module _ (b : List ℕ) (limit t : ℕ) (f0 f1 f2 f3 : Bytes) (m set r : ℕ) (e
       clear = λ q _ g s. absurd (f q g s);
       room = λ z. absurd (omega arith);
       free = λ z _. absurd (omega arith);
+      numbered = numbered 15 (omega arith) (omega arith);
     }
 
     module _ (n : ℕ) (en : RowsCounted b set n) where
@@ -186,6 +191,7 @@ module _ (b : List ℕ) (limit t : ℕ) (f0 f1 f2 f3 : Bytes) (m set r : ℕ) (e
                 clear = λ _ _ _ _. refl;
                 room = λ _. (omega arith, omega arith);
                 free = λ _ q. untaken q;
+                numbered = zero-numbered;
               }
 
 -- the row put in
@@ -193,6 +199,7 @@ module _ (b : List ℕ) (limit t : ℕ) (f0 f1 f2 f3 : Bytes) (k : ℕ) (w : Wei
   pub entered-refused : (k ≡ 0 → ⊥) → Entered b limit (makeRow t f0 f1 f2 f3) (refused k) b
   entered-refused z = record {
     kept = λ _. (refl, refl);
+    numbered = w .numbered;
     taken = λ q h. ap refused (w .taken q h);
     full = λ q h f. ap refused (w .full q h f);
     made = λ q h f s. absurd (z (w .clear q h f s));
@@ -218,6 +225,7 @@ module _ (b : List ℕ) (limit t : ℕ) (f0 f1 f2 f3 : Bytes) (k : ℕ) (w : Wei
     pub entered-made : (q : List ℕ) → (Sound b → Inserted b q r (makeRow t f0 f1 f2 f3)) → Entered b limit (makeRow t f0 f1 f2 f3) done q
     entered-made q ins = record {
       kept = λ y. absurd (y refl);
+      numbered = zero-numbered;
       taken = λ o h. absurd (true≢false (sym h ∙ w .free z o));
       full = λ o h f. absurd (omega (arith, w .full o h f));
       made = λ o _ _ _. (refl, inserted-is q (ins (o .sound)) o);

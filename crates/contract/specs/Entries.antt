@@ -8,7 +8,7 @@ use lib.Dec.{leb, ltb}
 use Rattle.iri.specs.Answers.{Answer}
 use Rattle.model.specs.Sets.{Key, held, lookup, insert, remove}
 use Rattle.model.specs.Places.{bound, spot}
-use Rattle.model.specs.Calls.{done, refused}
+use Rattle.model.specs.Calls.{done, refused, Numbered}
 use Rattle.store.specs.Layout.{capOf, countOf, usedOf, slotCount}
 use Rattle.store.specs.Rows.{Row, rowSize, rowsOf}
 use Rattle.store.specs.Packages.{Sound}
@@ -42,6 +42,7 @@ pub record Weighed (b : List ℕ) (limit : ℕ) (x : Row) (k : ℕ) : Type 0 whe
   pub clear : Ordered b → keyTaken b x ≡ false → noRowRoom b limit x ≡ false → countOf b < slotCount → k ≡ 0
   pub room : k ≡ 0 → (countOf b < slotCount) × (usedOf b + rowSize x ≤ capOf b)
   pub free : k ≡ 0 → Ordered b → keyTaken b x ≡ false
+  pub numbered : Numbered k
 
 -- q has the rows rs in the place of those of b
 pub record Became (b q : List ℕ) (rs : List Row) : Type 0 where
@@ -52,6 +53,7 @@ pub record Became (b q : List ℕ) (rs : List Row) : Type 0 where
 -- a is the answer to a new row x, and q the buffer after it
 pub record Entered (b : List ℕ) (limit : ℕ) (x : Row) (a : Answer) (q : List ℕ) : Type 0 where
   pub kept : (a .number ≡ 0 → ⊥) → (q ≡ b) × (a .output ≡ [])
+  pub numbered : Numbered (a .number)
   pub taken : Ordered b → keyTaken b x ≡ true → a ≡ refused 10
   pub full : Ordered b → keyTaken b x ≡ false → noRowRoom b limit x ≡ true → a ≡ refused 15
   pub made : Ordered b → keyTaken b x ≡ false → noRowRoom b limit x ≡ false → countOf b < slotCount → (a ≡ done) × Became b q (insert rowKey x (rowsOf b))
@@ -59,5 +61,6 @@ pub record Entered (b : List ℕ) (limit : ℕ) (x : Row) (a : Answer) (q : List
 -- a is the answer to a drop of the row of the key k, and q the buffer after it
 pub record Dropped (b : List ℕ) (k : Key) (a : Answer) (q : List ℕ) : Type 0 where
   pub kept : (a .number ≡ 0 → ⊥) → (q ≡ b) × (a .output ≡ [])
+  pub numbered : Numbered (a .number)
   pub missing : Ordered b → held (lookup rowKey k (rowsOf b)) ≡ false → a ≡ refused 13
   pub made : Ordered b → held (lookup rowKey k (rowsOf b)) ≡ true → (a ≡ done) × Became b q (remove rowKey k (rowsOf b))

@@ -7,11 +7,12 @@ use mathlib.Core.List.{List, [], _∷_}
 use lib.ListN.{length, replicate}
 use Rattle.iri.specs.Answers.{Answer, answer}
 use Rattle.model.specs.Package.{State, empty}
-use Rattle.model.specs.Calls.{Find, View, Totals, Call, Start, Looks, Changes, Prints, done, refused, startRefusal, step, valueCount, lent}
+use Rattle.model.specs.Calls.{Find, View, Totals, Call, Start, Looks, Changes, Prints, done, refused, Numbered, startRefusal, step, valueCount, lent}
 use Rattle.store.specs.Packages.{isPackage}
 use Rattle.contract.specs.Holds.{Holds}
 
--- the answer where the buffer is no package: "1 the buffer is no package", with "0 for every value"; a view has no number, and is empty
+-- the answer where the buffer is no package: "1 the buffer is no package", with "0 for every value"; a view has no number, and is empty.
+-- (A start is never asked this: it minds no bytes.)
 abbrev pub noPackage : Call → Answer
 noPackage (Start C) = refused 1
 noPackage (Looks (Find name)) = refused 1
@@ -33,14 +34,18 @@ Begun (Looks l) p a q = Unit {0}
 Begun (Changes c) p a q = Unit {0}
 Begun (Prints w output) p a q = Unit {0}
 
--- THE PROMISE of every call. It ran on the lent bytes p, answered a, and left the bytes q
+-- THE PROMISE of every call. It ran on the lent bytes p, answered a, and left the bytes q. The program has one choice, what it answers where
+-- the bytes pass the test and hold no abstract package: "For a foreign buffer that passes, answers are free, but the call ends and a refusal
+-- still changes nothing." Whichever it makes, `kept`, `numbered` and `sized` hold
 pub record Ran (call : Call) (p : List ℕ) (a : Answer) (q : List ℕ) : Type 0 where
   -- whatever abstract package the bytes hold, the answer is the ledger's, and the bytes then hold the ledger after the call
   pub ledger : (S : State) → Holds p S → (a ≡ step (length p) S call .0) × Holds q (step (length p) S call .1)
   -- "A refusal .. package and outputs stay unchanged", for all bytes, foreign ones too
   pub kept : (a .number ≡ 0 → ⊥) → (q ≡ p) × (a .output ≡ lent call)
-  -- "Answer 1 is decided by a written test of the bytes"
+  -- "Answer 1 is decided by a written test of the bytes": it is the answer where they fail it,
   pub foreign : starts call ≡ false → isPackage p ≡ false → a ≡ noPackage call
+  -- and not where they pass; there too the call "refuses by a number from document 01"
+  pub numbered : starts call ≡ false → isPackage p ≡ true → Numbered (a .number)
   pub begun : Begun call p a q
   -- the lent bytes keep their number
   pub sized : length q ≡ length p

@@ -20,6 +20,7 @@ use Rattle.model.specs.Places.{place, spot}
 use Rattle.model.specs.Fields.{first, prefixOf, suffixOf, itemField}
 use Rattle.model.specs.Package.{State, Item, itemKey, keyOfItem, itemAt}
 use Rattle.model.specs.Calls.{Changes, PutItem, DropItem, done, refused, changed, change, withItems, clash, putItemRefusal, dropItemRefusal}
+use Rattle.model.proofs.Numbers.{numbered}
 use Rattle.model.proofs.Rows.{rows-insert, rows-remove}
 use Rattle.model.proofs.ItemNames.{accepted-prefix}
 use Rattle.model.proofs.Refusals.{all-none, unmet}
@@ -33,7 +34,7 @@ use Rattle.contract.specs.Holds.{Lies, Holds}
 use Rattle.contract.specs.Ran.{Ran}
 use Rattle.contract.specs.Searches.{Bounded}
 use Rattle.contract.proofs.RowKeys.{tag-small}
-use Rattle.contract.proofs.Rans.{changes-foreign, change-refused, change-made, changed-refused, changed-made, closed, opened}
+use Rattle.contract.proofs.Rans.{field-refused, changes-foreign, change-refused, change-made, changed-refused, changed-made, closed, opened}
 use Rattle.items.specs.Wants.{wanted, Located}
 use Rattle.items.specs.Clashes.{Cleared}
 use Rattle.items.specs.declared.wanted.Wanted.{Wanted}
@@ -125,12 +126,12 @@ module _ (p s : Bytes) (x : Bool) (ex : x ≡ isPackage p) where
     pub drop-refused : (k : ℕ) → w ≡ Refused k → Ran (Changes (DropItem s)) p (refused k) p
     drop-refused k e =
         let z = wanted-refused (itemField s) s w ew k e in
-        change-refused p (opened p x ex hx) (DropItem s) k (λ S h. drop-no S s k (drop-named S s k (z .0) (z .1)) (z .1))
+        field-refused p (opened p x ex hx) (DropItem s) k (z .1) (λ S. drop-named S s k (z .0) (z .1))
 
     pub put-refused : (bytes : Bytes) (k : ℕ) → w ≡ Refused k → Ran (Changes (PutItem s bytes)) p (refused k) p
     put-refused bytes k e =
         let z = wanted-refused (itemField s) s w ew k e in
-        change-refused p (opened p x ex hx) (PutItem s bytes) k (λ S h. put-no S s bytes k (put-named S s bytes k (z .0) (z .1)) (z .1))
+        field-refused p (opened p x ex hx) (PutItem s bytes) k (z .1) (λ S. put-named S s bytes k (z .0) (z .1))
 
     module _ (n t : ℕ) (en : w ≡ Named n t) where
       pub named-is : (n ≡ length (prefixOf s)) × (t ≡ tagOf (suffixOf s)) × (itemField s ≡ 0)
@@ -144,7 +145,7 @@ module _ (p s : Bytes) (x : Bool) (ex : x ≡ isPackage p) where
 
       module _ (r m : ℕ) (er : Located p s r) (em : m ≡ countOf p) where
         pub drop-missing : m ≤ r → Ran (Changes (DropItem s)) p (refused 13) p
-        drop-missing l = change-refused p (opened p x ex hx) (DropItem s) 13 (λ S h. drop-no S s 13 (drop-13 S s (named-is .2) (er .is S h .missing (omega arith))) (λ z. omega arith))
+        drop-missing l = change-refused p (opened p x ex hx) (DropItem s) 13 (numbered 13 (omega arith) (omega arith)) (λ S h. drop-no S s 13 (drop-13 S s (named-is .2) (er .is S h .missing (omega arith))) (λ z. omega arith))
 
         pub drop-done : (q : Bytes) → length q ≡ length p → r < m → (Sound p → Removed p q r) → Ran (Changes (DropItem s)) p done q
         drop-done q lq l rm = change-made p (opened p x ex hx) (DropItem s) q lq (λ S h. out S h)
@@ -159,7 +160,7 @@ module _ (p s : Bytes) (x : Bool) (ex : x ≡ isPackage p) where
 
       module _ (bytes : Bytes) (r k : ℕ) (eb : Bounded p (keyIn 0 (take n s) t []) r) (ek : Cleared p s (length bytes) r k) where
         pub put-clash : (k ≡ 0 → ⊥) → Ran (Changes (PutItem s bytes)) p (refused k) p
-        put-clash z = change-refused p (opened p x ex hx) (PutItem s bytes) k (λ S h. put-no S s bytes k (ek .is S bytes h refl) z)
+        put-clash z = change-refused p (opened p x ex hx) (PutItem s bytes) k (ek .numbered) (λ S h. put-no S s bytes k (ek .is S bytes h refl) z)
 
         pub put-room : k ≡ 0 → Room p r (length (take n s) + (length (take (length s - n) (drop n s)) + (length bytes + 0)))
         put-room z = subst (Room p r) sum (ek .room z)

@@ -18,6 +18,7 @@ use Rattle.model.specs.Places.{bound, place}
 use Rattle.model.specs.Fields.{first, prefixOf, suffixOf}
 use Rattle.model.specs.Package.{State, Item, itemKey, keyOfItem, group, disagrees, grows}
 use Rattle.model.specs.Calls.{clash}
+use Rattle.model.proofs.Numbers.{numbered, zero-numbered}
 use Rattle.model.proofs.Lists.{any-map, any-same}
 use Rattle.model.proofs.Walks.{first-le}
 use Rattle.model.proofs.Sets.{Absent, absent}
@@ -146,7 +147,7 @@ module _
 
     -- EACH WAY OUT
     pub clash-10 : z ≡ true → Clashing b s 10
-    clash-10 q = record { is = λ S h. first-10 s (S .items) (taken S h q) }
+    clash-10 q = record { is = λ S h. first-10 s (S .items) (taken S h q); numbered = numbered 10 (omega arith) (omega arith) }
 
     module _ (q : z ≡ false) (x : Bool) (ex : Opposed b r m (take n s) t x) where
       or-right-true : (a : Bool) → (a || true) ≡ true
@@ -157,24 +158,24 @@ module _
       x-is S h = sym (ex .is (h .lies .sound) (ec .low))
 
       pub clash-12 : x ≡ true → Clashing b s 12
-      clash-12 e = record { is = λ S h. first-12 s (S .items) (ap held (untaken S h q)) (neighbours S h q ∙ rw (x-is S h, e, or-right-true)) }
+      clash-12 e = record { is = λ S h. first-12 s (S .items) (ap held (untaken S h q)) (neighbours S h q ∙ rw (x-is S h, e, or-right-true)); numbered = numbered 12 (omega arith) (omega arith) }
 
       module _ (y : Bool) (ey : OpposedBefore b r m (take n s) t y) where
         y-is : (S : State) → Holds b S → (ltb 0 r && (ltb (r - 1) m && opposedAt b (r - 1) (take n s) t)) ≡ y
         y-is S h = sym (ey .is (h .lies .sound) (ec .low))
 
         pub clash-12-before : y ≡ true → Clashing b s 12
-        clash-12-before e = record { is = λ S h. first-12 s (S .items) (ap held (untaken S h q)) (neighbours S h q ∙ rw (y-is S h, e)) }
+        clash-12-before e = record { is = λ S h. first-12 s (S .items) (ap held (untaken S h q)) (neighbours S h q ∙ rw (y-is S h, e)); numbered = numbered 12 (omega arith) (omega arith) }
 
         module _ (e : x ≡ false) (f : y ≡ false) (w : Bool) (ew : Grown b m (take n s) w) where
           agreeing : (S : State) → Holds b S → Disagreeing s (S .items) ≡ false
           agreeing S h = neighbours S h q ∙ rw (y-is S h, f, x-is S h, e)
 
           pub clash-11 : w ≡ true → Clashing b s 11
-          clash-11 g = record { is = λ S h. first-11 s (S .items) (ap held (untaken S h q)) (agreeing S h) (sym (growing S h w ew) ∙ g) }
+          clash-11 g = record { is = λ S h. first-11 s (S .items) (ap held (untaken S h q)) (agreeing S h) (sym (growing S h w ew) ∙ g); numbered = numbered 11 (omega arith) (omega arith) }
 
           pub clash-0 : w ≡ false → Clashing b s 0
-          clash-0 g = record { is = λ S h. first-0 s (S .items) (ap held (untaken S h q)) (agreeing S h) (sym (growing S h w ew) ∙ g) }
+          clash-0 g = record { is = λ S h. first-0 s (S .items) (ap held (untaken S h q)) (agreeing S h) (sym (growing S h w ew) ∙ g); numbered = zero-numbered }
 
         -- the rows beside r show that 11 does not hold
         module _ (e : x ≡ false) (f : y ≡ false) (u : Bool) (eu : Parted b r (take n s) u) (v : Bool) (ev : Extended b r m (take n s) v) (k : (u || v) ≡ false) where
@@ -196,4 +197,4 @@ module _
                 (λ z. ap (λ (a : Bytes). extends a (prefixOf s)) (sym (item-prefix b S h r z)) ∙ unextended z)
 
           pub clash-apart : Clashing b s 0
-          clash-apart = record { is = λ S h. first-0 s (S .items) (ap held (untaken S h q)) (neighbours S h q ∙ rw (y-is S h, f, x-is S h, e)) (ungrown S h) }
+          clash-apart = record { is = λ S h. first-0 s (S .items) (ap held (untaken S h q)) (neighbours S h q ∙ rw (y-is S h, f, x-is S h, e)) (ungrown S h); numbered = zero-numbered }

@@ -1,7 +1,7 @@
 -- Find and view: each way out.
 -- Assumes nothing.
 use Prim.Native.Nat.{ℕ, _≤_, _<_}
-use mathlib.Core.Path.{_≡_, refl, _∙_}
+use mathlib.Core.Path.{_≡_, refl, _∙_, subst}
 use mathlib.Core.Bool.{Bool, true, false, not}
 use mathlib.Core.List.{[], _∷_}
 use mathlib.Core.Option.{none, some}
@@ -12,7 +12,8 @@ use Rattle.iri.specs.Answers.{answer}
 use Rattle.model.specs.Sets.{Bytes}
 use Rattle.model.specs.Fields.{first, prefixOf, suffixOf, askedField}
 use Rattle.model.specs.Package.{State, Item, itemAt}
-use Rattle.model.specs.Calls.{Looks, Find, View, refused, askedRefusal, look}
+use Rattle.model.specs.Calls.{Numbered, Looks, Find, View, refused, askedRefusal, look}
+use Rattle.model.proofs.Numbers.{numbered, zero-numbered, asked-field-numbered}
 use Rattle.store.specs.Layout.{countOf}
 use Rattle.store.specs.Rows.{rowAt, fieldOf}
 use Rattle.store.specs.Packages.{isPackage, Sound}
@@ -71,12 +72,12 @@ module _ (p s : Bytes) (x : Bool) (ex : x ≡ isPackage p) where
     pub find-refused : (k : ℕ) → w ≡ Refused k → Ran (Looks (Find s)) p (refused k) p
     find-refused k e =
         let z = wanted-refused (askedField s) s w ew k e in
-        looked p (opened p x ex hx) (Find s) (refused k) (λ _. refl) (λ S h. find-no S s k (asked-first S s k (z .0) (z .1)) (z .1))
+        looked p (opened p x ex hx) (Find s) (refused k) (subst Numbered (z .0) (asked-field-numbered s)) (λ _. refl) (λ S h. find-no S s k (asked-first S s k (z .0) (z .1)) (z .1))
 
     pub view-refused : (k : ℕ) → w ≡ Refused k → Ran (Looks (View s)) p (ofView []) p
     view-refused k e =
         let z = wanted-refused (askedField s) s w ew k e in
-        looked p (opened p x ex hx) (View s) (ofView []) (λ _. refl) (λ S h. view-no S s k (asked-first S s k (z .0) (z .1)) (z .1))
+        looked p (opened p x ex hx) (View s) (ofView []) zero-numbered (λ _. refl) (λ S h. view-no S s k (asked-first S s k (z .0) (z .1)) (z .1))
 
     module _ (n t : ℕ) (en : w ≡ Named n t) (r m : ℕ) (er : Located p s r) (em : m ≡ countOf p) where
       accepted : askedField s ≡ 0
@@ -89,10 +90,10 @@ module _ (p s : Bytes) (x : Bool) (ex : x ≡ isPackage p) where
       thirteen e = omega arith
 
       pub find-missing : m ≤ r → Ran (Looks (Find s)) p (refused 13) p
-      find-missing l = looked p (opened p x ex hx) (Find s) (refused 13) (λ _. refl) (λ S h. find-no S s 13 (missed S h l) thirteen)
+      find-missing l = looked p (opened p x ex hx) (Find s) (refused 13) (numbered 13 (omega arith) (omega arith)) (λ _. refl) (λ S h. find-no S s 13 (missed S h l) thirteen)
 
       pub view-missing : m ≤ r → Ran (Looks (View s)) p (ofView []) p
-      view-missing l = looked p (opened p x ex hx) (View s) (ofView []) (λ _. refl) (λ S h. view-no S s 13 (missed S h l) thirteen)
+      view-missing l = looked p (opened p x ex hx) (View s) (ofView []) zero-numbered (λ _. refl) (λ S h. view-no S s 13 (missed S h l) thirteen)
 
       module _ (l : r < m) (f : Bytes) (ef : Sound p → r < countOf p → f ≡ fieldOf (rowAt p r) 2) where
         there : (S : State) → Holds p S → askedRefusal S s ≡ 0
@@ -102,9 +103,9 @@ module _ (p s : Bytes) (x : Bool) (ex : x ≡ isPackage p) where
         bytes-are S h = ef (h .lies .sound) (omega arith) ∙ item-bytes p S h r (er .is S h .within (omega arith))
 
         pub find-found : Ran (Looks (Find s)) p (answer 0 (length f ∷ []) []) p
-        find-found = looked p (opened p x ex hx) (Find s) (answer 0 (length f ∷ []) []) (λ _. refl)
+        find-found = looked p (opened p x ex hx) (Find s) (answer 0 (length f ∷ []) []) zero-numbered (λ _. refl)
             (λ S h. find-yes S s (getD (S .items) r noItem) f (there S h) (er .is S h .found (omega arith)) (bytes-are S h))
 
         pub view-found : Ran (Looks (View s)) p (ofView f) p
-        view-found = looked p (opened p x ex hx) (View s) (ofView f) (λ z. absurd (z refl))
+        view-found = looked p (opened p x ex hx) (View s) (ofView f) zero-numbered (λ z. absurd (z refl))
             (λ S h. view-yes S s (getD (S .items) r noItem) f (there S h) (er .is S h .found (omega arith)) (bytes-are S h))

@@ -11,6 +11,7 @@ use Rattle.model.specs.Sets.{Bytes}
 use Rattle.model.specs.Fields.{when, first, itemField}
 use Rattle.model.specs.Package.{State, itemLimit, charge}
 use Rattle.model.specs.Calls.{clash, noRoom, putItemRefusal}
+use Rattle.model.proofs.Numbers.{numbered, zero-numbered}
 use Rattle.store.specs.Layout.{countOf, usedOf, capOf}
 use Rattle.contract.specs.Rows.{keyIn}
 use Rattle.contract.specs.Holds.{Holds}
@@ -35,6 +36,7 @@ module _ (b s : Bytes) (size r : ℕ) (accepted : itemField s ≡ 0) (k : ℕ) (
   cleared-clash z = record {
     is = λ S bytes h e. refusal-is S s bytes accepted ∙ rw (← ek .is S h, ne-eqb k 0 z);
     room = λ y. absurd (z y);
+    numbered = ek .numbered;
   }
 
   module _ (z : k ≡ 0) (m : ℕ) (ec : Counted b m) where
@@ -43,7 +45,7 @@ module _ (b s : Bytes) (size r : ℕ) (accepted : itemField s ≡ 0) (k : ℕ) (
     room-is S bytes h e = refusal-is S s bytes accepted ∙ rw (← ek .is S h, z, e)
 
     full : ((S : State) → Holds b S → noRoom itemLimit (length (S .items)) (length s + size) S ≡ true) → Cleared b s size r 15
-    full f = record { is = λ S bytes h e. room-is S bytes h e ∙ rw (f S h); room = λ y. absurd (omega arith) }
+    full f = record { is = λ S bytes h e. room-is S bytes h e ∙ rw (f S h); room = λ y. absurd (omega arith); numbered = numbered 15 (omega arith) (omega arith) }
 
     or-true : (a b : Bool) → b ≡ true → (a || b) ≡ true
     or-true true b e = refl
@@ -74,4 +76,5 @@ module _ (b s : Bytes) (size r : ℕ) (accepted : itemField s ≡ 0) (k : ℕ) (
               room-is S bytes h y
               ∙ rw (lt-leb 256 (length (S .items)) (omega (arith, ec .is S h)), le-ltb (S .capacity) (charge S + (length s + size)) (omega (arith, used-charge b S h, h .lies .capacity)));
           room = λ _. record { at = eb .within; more = omega arith; fits = omega arith };
+          numbered = zero-numbered;
         }

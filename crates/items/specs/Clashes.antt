@@ -10,7 +10,7 @@ use Rattle.chars.specs.Bytes.{slash}
 use Rattle.chars.specs.Folding.{fold, equivalent}
 use Rattle.model.specs.Sets.{Bytes, any}
 use Rattle.model.specs.Package.{State, grows}
-use Rattle.model.specs.Calls.{clash, putItemRefusal}
+use Rattle.model.specs.Calls.{Numbered, clash, putItemRefusal}
 use Rattle.store.specs.Layout.{countOf}
 use Rattle.store.specs.Rows.{Row, rowAt, tagAt, rowsOf, fieldOf}
 use Rattle.store.specs.Packages.{Sound, Room}
@@ -77,8 +77,10 @@ pub record OpposedBefore (b : List ℕ) (r m : ℕ) (p : Bytes) (t : ℕ) (z : B
 -- k is the refusal of a new item of that name by the held ones: 10, 12 or 11, 0 for none
 pub record Clashing (b : List ℕ) (name : Bytes) (k : ℕ) : Type 0 where
   pub is : (S : State) → Holds b S → k ≡ clash name (S .items)
+  pub numbered : Numbered k
 
 -- k is the refusal of a put whose name is accepted; where it is 0 there is room for the row at r
 pub record Cleared (b : List ℕ) (name : Bytes) (size r k : ℕ) : Type 0 where
   pub is : (S : State) (bytes : Bytes) → Holds b S → length bytes ≡ size → putItemRefusal S name bytes ≡ k
   pub room : k ≡ 0 → Room b r (length name + size)
+  pub numbered : Numbered k

@@ -8,6 +8,7 @@ pub mod Places
 pub mod Rows
 pub mod Keys
 pub mod Refusals
+pub mod Numbers
 pub mod ItemNames
 pub mod FieldSizes
 pub mod Items

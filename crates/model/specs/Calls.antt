@@ -1,6 +1,7 @@
 -- What each call answers, and the package after it: document 01's ledger, call by call.
 -- Assumes nothing.
-use Prim.Native.Nat.{ℕ, _+_, _-_}
+use Prim.Native.Nat.{ℕ, _+_, _-_, _≤_}
+use mathlib.Core.Path.{_≡_}
 use mathlib.Core.Bool.{Bool, true, false, not, _||_, cond}
 use mathlib.Core.List.{List, [], _∷_, _++_}
 use mathlib.Core.Option.{Option, none, some}
@@ -56,6 +57,10 @@ done = answer 0 (0 ∷ []) []
 -- "A refusal answers its number and 0 for every value"
 abbrev pub refused : ℕ → Answer
 refused n = answer n (0 ∷ []) []
+
+-- "refuses by a number from document 01"; on a buffer that passes the test not by 1
+abbrev pub Numbered : ℕ → Type 0
+Numbered n = (n ≤ 16) × (n ≡ 1 → ⊥)
 
 abbrev pub choose : Bool → Answer → Answer → Answer
 choose true a b = a

@@ -22,6 +22,7 @@ use Rattle.store.specs.Rows.{rowAt, fieldOf}
 use Rattle.store.specs.Packages.{Sound, isPackage}
 use Rattle.contract.specs.Holds.{Holds}
 use Rattle.contract.specs.Searches.{Counted}
+use Rattle.model.proofs.Numbers.{numbered, zero-numbered}
 use Rattle.contract.specs.Ran.{Ran}
 use Rattle.contract.proofs.Rans.{looked, wrote}
 use Rattle.contract.proofs.RowCharges.{used-charge}
@@ -38,7 +39,7 @@ module _ (b : List ℕ) (o : isPackage b ≡ true) where
     pub totals-done : (i m : ℕ) → Walked b n n i m → (u : ℕ) → u ≡ usedOf b → Ran (Looks Totals) b (answer 0 (n ∷ m ∷ u ∷ []) []) b
     unfolding look
     totals-done i m w u eu =
-        looked b o Totals (answer 0 (n ∷ m ∷ u ∷ []) []) (λ _. refl) (λ S h. rw (← c .is S h, ← used-charge b S h, ← eu, ← all S h (ltb i n) refl))
+        looked b o Totals (answer 0 (n ∷ m ∷ u ∷ []) []) zero-numbered (λ _. refl) (λ S h. rw (← c .is S h, ← used-charge b S h, ← eu, ← all S h (ltb i n) refl))
       where
         all : (S : State) (h : Holds b S) (t : Bool) → ltb i n ≡ t → m ≡ length (parts (S .items))
         all S h true e = absurd (omega (arith, w .stopped S h (c .is S h) (ltb-true i n e) .0, parts-few (S .items), c .is S h))
@@ -49,7 +50,7 @@ module _ (b : List ℕ) (o : isPackage b ≡ true) where
       pub position-missing : n ≤ i → Ran (Prints (PartAt k) out) b (answer 13 (0 ∷ []) out) b
       unfolding printed
       position-missing l =
-          text-refused b o (PartAt k) refl out 13
+          text-refused b o (PartAt k) refl out 13 (numbered 13 (omega arith) (omega arith))
           (λ S h. let e = w .ended S h (c .is S h) l in rw (le-leb (length (parts (S .items))) k (omega (arith, e .0, e .1))))
 
       -- "part at position i, from 0, in folded order: its spelling": s, the prefix in its first row
@@ -67,7 +68,7 @@ module _ (b : List ℕ) (o : isPackage b ≡ true) where
     -- "4 not a part name"
     pub read-misnamed : not q ≡ true → Ran (Prints (ReadPart name offset) out) b (answer 4 (0 ∷ []) out) b
     unfolding printed first
-    read-misnamed hq = text-refused b o (ReadPart name offset) refl out 4 (λ S h. rw (← eq, not-true q hq))
+    read-misnamed hq = text-refused b o (ReadPart name offset) refl out 4 (numbered 4 (omega arith) (omega arith)) (λ S h. rw (← eq, not-true q hq))
 
     module _ (hq : not q ≡ false) (f t : ℕ) (g : Grouped b name f t) (y : Bool) (j : Judged b f t y) where
       part : (S : State) → Holds b S → isPart (group name (S .items)) ≡ y
@@ -76,13 +77,13 @@ module _ (b : List ℕ) (o : isPackage b ≡ true) where
       -- "13 not held, no part yet"
       pub read-missing : not y ≡ true → Ran (Prints (ReadPart name offset) out) b (answer 13 (0 ∷ []) out) b
       unfolding printed first
-      read-missing hy = text-refused b o (ReadPart name offset) refl out 13 (λ S h. rw (← eq, not-false q hq, part S h, not-true y hy))
+      read-missing hy = text-refused b o (ReadPart name offset) refl out 13 (numbered 13 (omega arith) (omega arith)) (λ S h. rw (← eq, not-false q hq, part S h, not-true y hy))
 
       -- "read part(name, offset): the content from there, as much as the output takes"
       pub read-done : not y ≡ false → (n : ℕ) (out' : List ℕ) → Copied b f t offset out n out' → Ran (Prints (ReadPart name offset) out) b (answer 0 (n ∷ []) out') b
       unfolding printed first
       read-done hy n out' x =
-          wrote b o (ReadPart name offset) out (answer 0 (n ∷ []) out') (λ r. absurd (r refl))
+          wrote b o (ReadPart name offset) out (answer 0 (n ∷ []) out') zero-numbered (λ r. absurd (r refl))
           (λ S h.
           let s = x .is S h (g .inside S h) in
           let T = taken S f t offset (length out) in

@@ -153,7 +153,7 @@ module _ (p : List ℕ) (o : isPackage p ≡ true) (s i : Bytes) where
 
     pub drop-ran : k ≡ 0 → (a : Answer) (q : List ℕ) → length q ≡ length p → Dropped p (keyIn 3 s 0 i) a q → Ran (Changes (DropRelationship s i)) p a q
     drop-ran z a q l w =
-        ran-changed p o (DropRelationship s i) a q l (w .kept)
+        ran-changed p o (DropRelationship s i) a q l (w .numbered) (w .kept)
         (λ S h. drop-step keyOfRelationship relationshipRow 3 S (S .relationships) (withRelationships S) (relationships-among S) p h (DropRelationship s i) (relationshipKey s i) a q
         (subst (λ (j : Key). Dropped p j a q) (key-is s i) w) (drop-held S s i (sym ek ∙ z)) refl)
 
@@ -163,6 +163,6 @@ module _ (p : List ℕ) (o : isPackage p ≡ true) (s i : Bytes) where
 
     pub put-ran : k ≡ 0 → (a : Answer) (q : List ℕ) → length q ≡ length p → Entered p relationshipLimit (makeRow (relationshipTag + m) s i v t) a q → Ran (Changes (PutRelationship s i v m t)) p a q
     put-ran z a q l w =
-        ran-changed p o (PutRelationship s i v m t) a q l (w .kept)
+        ran-changed p o (PutRelationship s i v m t) a q l (w .numbered) (w .kept)
         (λ S h. put-step keyOfRelationship relationshipRow 3 S (S .relationships) (withRelationships S) (relationships-among S) p h (PutRelationship s i v m t) (R s i v m t) relationshipLimit a q
         (subst (λ (x : Row). Entered p relationshipLimit x a q) (row-is s i v m t) w) (relationship-slot p S h) (put-room s i v m t S (sym ek ∙ z)) refl)

@@ -24,8 +24,9 @@ use Rattle.iri.proofs.Judging.{package-few}
 use Rattle.model.specs.Sets.{Bytes, lookup}
 use Rattle.model.specs.Fields.{when, first, sourceField, idField, packageField}
 use Rattle.model.specs.Package.{State, Relationship, relationshipKey, keyOfRelationship, group, isPart}
-use Rattle.model.specs.Calls.{Prints, ResolveRelationship, Text, Refused, choose, flag, resolved, printed, filled, withRelationships}
+use Rattle.model.specs.Calls.{Prints, ResolveRelationship, Numbered, Text, Refused, choose, flag, resolved, printed, filled, withRelationships}
 use Rattle.model.specs.Good.{fieldsOfRelationship}
+use Rattle.model.proofs.Numbers.{numbered, zero-numbered, resolve-fields-numbered}
 use Rattle.model.proofs.Refusals.{all-none, unmet}
 use Rattle.model.proofs.Lookups.{none-some, some-eq, lookup-each}
 use Rattle.model.proofs.Targets.{fielded, target-size}
@@ -91,6 +92,14 @@ text-kept t out vs a e h = ap (λ (x : Answer). x .output) e ∙ go (leb (length
     go true h = absurd (h refl)
     go false h = refl
 
+text-numbered : (t out vs : List ℕ) (a : Answer) → a ≡ filled 3 out (Text t vs) → Numbered (a .number)
+unfolding filled
+text-numbered t out vs a e = subst (λ (x : Answer). Numbered (x .number)) (sym e) (go (leb (length t) (length out)))
+  where
+    go : (b : Bool) → Numbered (choose b (answer 0 (length t ∷ vs) (t ++ drop (length t) out)) (answer 3 (length t ∷ 0 ∷ 0 ∷ []) out) .number)
+    go true = zero-numbered
+    go false = numbered 3 (omega arith) (omega arith)
+
 -- AN EXTERNAL TARGET; k is where the package IRI's fragment begins
 module _ (target base : Bytes) (lt : length target ≤ 255) (lb : length base ≤ 255) (k : ℕ) (ek : k ≡ 0 + indexOf numberSign base) where
   k-le : k ≤ length base
@@ -139,11 +148,12 @@ module _ (source target : Bytes) (ls : length source ≤ 255) (lt : length targe
     g = subst (λ (p : Bytes). Fitted out (packIri base p) n out') path-is f
 
     pub internal-short : length out' < n → LedTo b source target base out (ofResolution (resolution.Short n) out')
-    internal-short s = record { kept = λ _. g .short (omega arith); is = λ S h. text-short T out out' (values S) n g l s }
+    internal-short s = record { kept = λ _. g .short (omega arith); numbered = numbered 3 (omega arith) (omega arith); is = λ S h. text-short T out out' (values S) n g l s }
 
     pub internal-whole : n ≤ length out' → (y : Bool) → PartOf b (take k path) y → LedTo b source target base out (ofResolution (resolution.Internal n y) out')
     internal-whole s y w = record {
       kept = λ z. absurd (z refl);
+      numbered = zero-numbered;
       is = λ S h.
           ap (λ (x : Bool). answer 0 (n ∷ 0 ∷ flag x ∷ []) out') (w .is S h ∙ ap (λ (p : Bytes). isPart (group p (S .items))) path-is)
           ∙ text-whole T out out' (values S) n g l s;
@@ -156,7 +166,7 @@ module _ (b : List ℕ) (i : ℕ) (li : i < countOf b) (base out t : Bytes) (et 
   target-is S h r e = et (h .lies .sound) li ∙ ap (λ (x : Row). fieldOf x 3) e
 
   pub row-long-target : 255 < length t → RowResolved b i base out (ofResolution (resolution.Refused 13) out)
-  row-long-target l = record { kept = λ _. refl; is = λ S h r e f. absurd (omega (arith, target-size r (fielded r f), ap length (target-is S h r e))) }
+  row-long-target l = record { kept = λ _. refl; numbered = numbered 13 (omega arith) (omega arith); is = λ S h r e f. absurd (omega (arith, target-size r (fielded r f), ap length (target-is S h r e))) }
 
   -- g is its tag
   module _ (g : ℕ) (eg : Shape b → i < countOf b → g ≡ tagAt b i) where
@@ -168,6 +178,7 @@ module _ (b : List ℕ) (i : ℕ) (li : i < countOf b) (base out t : Bytes) (et 
     unfolding resolved
     row-external z a ea = record {
       kept = text-kept (resolve (unfragmented base) t) out (1 ∷ 0 ∷ []) a ea;
+      numbered = text-numbered (resolve (unfragmented base) t) out (1 ∷ 0 ∷ []) a ea;
       is = λ S h r e f.
           let m : eqb (r .mode) 1 ≡ true = eq-eqb (r .mode) 1 (omega (arith, tag-is S h r e)) in
           ea ∙ rw (m, ← target-is S h r e);
@@ -182,6 +193,7 @@ module _ (b : List ℕ) (i : ℕ) (li : i < countOf b) (base out t : Bytes) (et 
       pub row-long-source : 255 < length s → RowResolved b i base out (ofResolution (resolution.Refused 13) out)
       row-long-source l = record {
         kept = λ _. refl;
+        numbered = numbered 13 (omega arith) (omega arith);
         is = λ S h r e f. absurd (omega (arith, source-size (r .source) (fielded r f .source) .1, ap length (source-is S h r e)));
       }
 
@@ -189,6 +201,7 @@ module _ (b : List ℕ) (i : ℕ) (li : i < countOf b) (base out t : Bytes) (et 
       unfolding resolved
       row-internal a w = record {
         kept = w .kept;
+        numbered = w .numbered;
         is = λ S h r e f.
             let m : eqb (r .mode) 1 ≡ false = ne-eqb (r .mode) 1 (λ y. z (omega (arith, tag-is S h r e))) in
             w .is S h ∙ rw (m, ← target-is S h r e, ← source-is S h r e);
@@ -198,7 +211,7 @@ module _ (b : List ℕ) (i : ℕ) (li : i < countOf b) (base out t : Bytes) (et 
 module _ (p : List ℕ) (o : isPackage p ≡ true) (s i base out : Bytes) (k : ℕ) (ek : k ≡ first (sourceField s ∷ idField i ∷ packageField base ∷ [])) where
   pub resolve-refused : (k ≡ 0 → ⊥) → Ran (Prints (ResolveRelationship s i base) out) p (ofResolution (resolution.Refused k) out) p
   unfolding printed filled
-  resolve-refused z = wrote p o (ResolveRelationship s i base) out (answer k (0 ∷ 0 ∷ 0 ∷ []) out) (λ _. refl) (λ S h. rw (← ek, ne-eqb k 0 z))
+  resolve-refused z = wrote p o (ResolveRelationship s i base) out (answer k (0 ∷ 0 ∷ 0 ∷ []) out) (subst Numbered (sym ek) (resolve-fields-numbered s i base)) (λ _. refl) (λ S h. rw (← ek, ne-eqb k 0 z))
 
   module _ (z : k ≡ 0) where
     pub package-size : length base ≤ 255
@@ -219,7 +232,7 @@ module _ (p : List ℕ) (o : isPackage p ≡ true) (s i base out : Bytes) (k : �
       pub resolve-missing : m ≤ r → Ran (Prints (ResolveRelationship s i base) out) p (ofResolution (resolution.Refused 13) out) p
       unfolding filled resolved
       resolve-missing l =
-          wrote p o (ResolveRelationship s i base) out (answer 13 (0 ∷ 0 ∷ 0 ∷ []) out) (λ _. refl)
+          wrote p o (ResolveRelationship s i base) out (answer 13 (0 ∷ 0 ∷ 0 ∷ []) out) (numbered 13 (omega arith) (omega arith)) (λ _. refl)
           (λ S h. sym (ap (filled 3 out) (printed-is S none (unheld (sought S) (row-is S h ∙ row-none p (holds-ordered p S h) (keyIn 3 s 0 i) r er (omega arith))))))
         where
           unheld : (x : Option Relationship) → rowFor relationshipRow x ≡ none → x ≡ none
@@ -228,7 +241,7 @@ module _ (p : List ℕ) (o : isPackage p ≡ true) (s i base out : Bytes) (k : �
 
       pub resolve-found : r < m → (a : Answer) → RowResolved p r base out a → Ran (Prints (ResolveRelationship s i base) out) p a p
       resolve-found l a w =
-          wrote p o (ResolveRelationship s i base) out a (w .kept)
+          wrote p o (ResolveRelationship s i base) out a (w .numbered) (w .kept)
           (λ S h. go S h (sought S) refl (row-is S h ∙ row-here p (holds-ordered p S h) (keyIn 3 s 0 i) r er (omega arith)))
         where
           go : (S : State) → Holds p S → (x : Option Relationship) → sought S ≡ x → rowFor relationshipRow x ≡ some (rowAt p r)

@@ -8,7 +8,7 @@ use Rattle.iri.specs.Answers.{Answer, answer}
 use Rattle.iri.specs.Targets.{resolvePath}
 use Rattle.iri.specs.Pack.{packIri}
 use Rattle.model.specs.Package.{Relationship, State, group, isPart}
-use Rattle.model.specs.Calls.{Text, flag, resolved, filled}
+use Rattle.model.specs.Calls.{Numbered, Text, flag, resolved, filled}
 use Rattle.model.specs.Good.{fieldsOfRelationship}
 use Rattle.store.specs.Rows.{rowAt}
 use Rattle.contract.specs.Rows.{relationshipRow}
@@ -27,10 +27,12 @@ ofResolution (Refused k) out = answer k (0 ∷ 0 ∷ 0 ∷ []) out
 -- a is the answer for an internal target of that source, in the buffer b
 pub record LedTo (b source target base out : List ℕ) (a : Answer) : Type 0 where
   pub kept : (a .number ≡ 0 → ⊥) → a .output ≡ out
+  pub numbered : Numbered (a .number)
   pub is : (S : State) → Holds b S
       → a ≡ filled 3 out (Text (packIri base (resolvePath source target)) (0 ∷ flag (isPart (group (resolvePath source target) (S .items))) ∷ []))
 
 -- a is the answer for the relationship in row i of b
 pub record RowResolved (b : List ℕ) (i : ℕ) (base out : List ℕ) (a : Answer) : Type 0 where
   pub kept : (a .number ≡ 0 → ⊥) → a .output ≡ out
+  pub numbered : Numbered (a .number)
   pub is : (S : State) → Holds b S → (r : Relationship) → rowAt b i ≡ relationshipRow r → fieldsOfRelationship r ≡ 0 → a ≡ filled 3 out (resolved S base (some r))

@@ -4,6 +4,7 @@ use Prim.Native.Nat.{ℕ, _≤_, _<_}
 use mathlib.Core.Path.{_≡_, refl, sym, _∙_}
 use mathlib.Core.Bool.{true}
 use mathlib.Core.List.{List, [], _++_}
+use native.Mathlib.Omega.{arith}
 use lib.ListN.{length}
 use Rattle.iri.specs.Answers.{Answer, ofWritten}
 use Rattle.iri.specs.Answers as iri
@@ -14,6 +15,7 @@ use Rattle.model.specs.Sets.{Bytes}
 use Rattle.model.specs.Package.{State}
 use Rattle.model.specs.Texts.{declaration}
 use Rattle.model.specs.Calls.{Print, Prints, Text, printed, valueCount}
+use Rattle.model.proofs.Numbers.{numbered, zero-numbered}
 use Rattle.store.specs.Layout.{countOf}
 use Rattle.store.specs.Rows.{rowsOf}
 use Rattle.store.specs.Packages.{isPackage}
@@ -38,12 +40,14 @@ module _ (b : List ℕ) (f t : ℕ) (head foot : Bytes) (k : t ≤ countOf b) (w
   pub answered-short : length (ys ++ out) < n → Answered b f t head foot out (ofWritten (written.Short n) (ys ++ out))
   answered-short l = record {
     kept = λ _. append-none ys out z;
+    numbered = numbered 3 (omega arith) (omega arith);
     is = λ so. let T = streamOf b f t head foot in dry-short (iri.Text T) T w ys out n refl (x .is so k) z l;
   }
 
   pub answered-bytes : n ≤ length (ys ++ out) → (m : ℕ) (out' : Bytes) → Streamed b f t head foot (ys ++ out) m out' → Answered b f t head foot out (ofWritten (written.Bytes m) out')
   answered-bytes l m out' y = record {
     kept = λ r. absurd (r refl);
+    numbered = zero-numbered;
     is = λ so. let T = streamOf b f t head foot in dry-bytes (iri.Text T) T w ys out n refl (x .is so k) z m out' l (y .is so k);
   }
 
@@ -51,4 +55,4 @@ module _ (b : List ℕ) (f t : ℕ) (head foot : Bytes) (k : t ≤ countOf b) (w
 pub stream-ran : (b : List ℕ) → isPackage b ≡ true → (w : Print) → valueCount w ≡ 1 → (out : Bytes) (f t : ℕ) (head foot : Bytes) (a : Answer) → Answered b f t head foot out a
     → ((S : State) → Holds b S → printed S (length out) w ≡ Text (streamOf b f t head foot) []) → Ran (Prints w out) b a b
 stream-ran b o w v out f t head foot a x e =
-    wrote b o w out a (x .kept) (λ S h. rw (e S h, v) (x .is (h .lies .sound) ∙ text-filled (streamOf b f t head foot) out))
+    wrote b o w out a (x .numbered) (x .kept) (λ S h. rw (e S h, v) (x .is (h .lies .sound) ∙ text-filled (streamOf b f t head foot) out))

@@ -1,7 +1,7 @@
 -- The rows that each call lists, and each way out of it.
 -- Assumes nothing.
 use Prim.Native.Nat.{ℕ, _+_}
-use mathlib.Core.Path.{_≡_, refl, ap, ap₂, sym, _∙_}
+use mathlib.Core.Path.{_≡_, refl, ap, ap₂, sym, subst, _∙_}
 use mathlib.Core.Bool.{true}
 use mathlib.Core.List.{List, [], _∷_, _++_, map, append-assoc}
 use native.Mathlib.Nat.{add-zero}
@@ -16,7 +16,8 @@ use Rattle.model.specs.Sets.{Bytes, joined}
 use Rattle.model.specs.Places.{firstWhere, bound}
 use Rattle.model.specs.Package.{Relationship, State, keyOfRelationship}
 use Rattle.model.specs.Texts.{declaration, defaultLine, overrideLine, relationshipLine, ofSource, typesText, relationshipsText}
-use Rattle.model.specs.Calls.{Prints, WriteTypes, WriteRelationships, printed}
+use Rattle.model.specs.Calls.{Prints, WriteTypes, WriteRelationships, Numbered, printed}
+use Rattle.model.proofs.Numbers.{source-field-numbered}
 use Rattle.model.proofs.Lists.{slice-map, slice-append}
 use Rattle.model.proofs.Joins.{joined-append, joined-map}
 use Rattle.model.proofs.Groups.{tilde, source-between}
@@ -117,7 +118,7 @@ module _ (b : List ℕ) (o : isPackage b ≡ true) where
   module _ (s out : Bytes) (k : ℕ) (ek : k ≡ sourceRefusal s) where
     pub relationships-refused : (k ≡ 0 → ⊥) → Ran (Prints (WriteRelationships s) out) b (answer k (0 ∷ []) out) b
     unfolding printed
-    relationships-refused z = text-refused b o (WriteRelationships s) refl out k (λ S h. rw (← ek, ne-eqb k 0 z))
+    relationships-refused z = text-refused b o (WriteRelationships s) refl out k (subst Numbered (sym ek) (source-field-numbered s)) (λ S h. rw (← ek, ne-eqb k 0 z))
 
     pub relationships-written : k ≡ 0 → (f t : ℕ) → Bounded b (keyIn 3 s 0 []) f → Bounded b (keyIn 3 s 0 (tilde ∷ [])) t → (a : Answer)
         → Answered b f t (ascii "<Relationships xmlns=\"http://schemas.openxmlformats.org/package/2006/relationships\">\n") (ascii "</Relationships>\n") out a

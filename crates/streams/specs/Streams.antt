@@ -10,6 +10,7 @@ use Rattle.iri.specs.Answers.{Answer, Text, written}
 use Rattle.iri.specs.Scratch.{Sent}
 use Rattle.model.specs.Sets.{Bytes, joined}
 use Rattle.model.specs.Texts.{declaration}
+use Rattle.model.specs.Calls.{Numbered}
 use Rattle.store.specs.Layout.{slotCount, countOf}
 use Rattle.store.specs.Rows.{Row, rowAt, rowsOf}
 use Rattle.store.specs.Packages.{Sound}
@@ -56,4 +57,5 @@ pub record Streamed (b : List ℕ) (f t : ℕ) (head foot : Bytes) (out : List �
 -- a is the answer of a call that writes the stream
 pub record Answered (b : List ℕ) (f t : ℕ) (head foot : Bytes) (out : List ℕ) (a : Answer) : Type 0 where
   pub kept : (a .number ≡ 0 → ⊥) → a .output ≡ out
+  pub numbered : Numbered (a .number)
   pub is : Sound b → a ≡ written (Text (streamOf b f t head foot)) out

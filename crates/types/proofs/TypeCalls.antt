@@ -178,7 +178,7 @@ module _ (K : Kind) (p : List ℕ) (o : isPackage p ≡ true) (s : Bytes) (y : B
 
     pub drop-ran : (a : Answer) (q : List ℕ) → length q ≡ length p → Dropped p (keyIn (K .set) s 0 []) a q → Ran (Changes (K .dropping s)) p a q
     drop-ran a q l w =
-        ran-changed p o (K .dropping s) a q l (w .kept)
+        ran-changed p o (K .dropping s) a q l (w .numbered) (w .kept)
         (λ S h.
         let t = when (not (held (lookup (K .key) (nameKey s) (K .own S)))) 13 in
         drop-step (K .key) (K .row) (K .set) S (K .own S) (K .renewed S) (K .among S) p h (K .dropping s) (nameKey s) a q (subst (λ (k : Key). Dropped p k a q) (K .key-is s) w)
@@ -194,7 +194,7 @@ module _ (K : Kind) (p : List ℕ) (o : isPackage p ≡ true) (s : Bytes) (y : B
 
       pub put-ran : not z ≡ false → (a : Answer) (q : List ℕ) → length q ≡ length p → Entered p (K .limit) (makeRow (K .tag) s v [] []) a q → Ran (Changes (K .putting s v)) p a q
       put-ran hz a q l w =
-          ran-changed p o (K .putting s v) a q l (w .kept)
+          ran-changed p o (K .putting s v) a q l (w .numbered) (w .kept)
           (λ S h.
           put-step (K .key) (K .row) (K .set) S (K .own S) (K .renewed S) (K .among S) p h (K .putting s v) (K .entry s v) (K .limit) a q
           (subst (λ (x : Row). Entered p (K .limit) x a q) (K .row-is s v) w) (K .slot p S h) (refusal-is S) (K .put S s v))

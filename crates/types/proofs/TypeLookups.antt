@@ -20,6 +20,7 @@ use Rattle.model.specs.Fields.{first}
 use Rattle.model.specs.Package.{State, Default, Override, nameKey, keyOfDefault, keyOfOverride, typeOf, typeOfDefault, defaultFor, mediaTypeOf}
 use Rattle.model.specs.Calls.{Prints, MediaType, printed, withDefaults, withOverrides}
 use Rattle.model.proofs.Lookups.{none-some, some-eq}
+use Rattle.model.proofs.Numbers.{numbered}
 use Rattle.store.specs.Layout.{countOf}
 use Rattle.store.specs.Rows.{Row, rowAt, rowsOf, fieldOf}
 use Rattle.store.specs.Packages.{Sound, isPackage}
@@ -106,19 +107,19 @@ module _ (b : List ℕ) (o : isPackage b ≡ true) (name out : Bytes) (q : Bool)
   -- "4 not a part name"
   pub type-misnamed : not q ≡ true → Ran (Prints (MediaType name) out) b (answer 4 (0 ∷ []) out) b
   unfolding printed first
-  type-misnamed hq = text-refused b o (MediaType name) refl out 4 (λ S h. rw (← eq, not-true q hq))
+  type-misnamed hq = text-refused b o (MediaType name) refl out 4 (numbered 4 (omega arith) (omega arith)) (λ S h. rw (← eq, not-true q hq))
 
   module _ (hq : not q ≡ false) (y : Bool) (ey : PartOf b name y) where
     -- "13 not held, no part yet"
     pub type-missing : not y ≡ true → Ran (Prints (MediaType name) out) b (answer 13 (0 ∷ []) out) b
     unfolding printed first
-    type-missing hy = text-refused b o (MediaType name) refl out 13 (λ S h. rw (← eq, not-false q hq, ← ey .is S h, not-true y hy))
+    type-missing hy = text-refused b o (MediaType name) refl out 13 (numbered 13 (omega arith) (omega arith)) (λ S h. rw (← eq, not-false q hq, ← ey .is S h, not-true y hy))
 
     module _ (hy : not y ≡ false) (r m : ℕ) (t : Typed b name r) (em : m ≡ countOf b) where
       -- "14 no media type"
       pub type-none : m ≤ r → Ran (Prints (MediaType name) out) b (answer 14 (0 ∷ []) out) b
       unfolding printed first
-      type-none l = text-refused b o (MediaType name) refl out 14 (λ S h. rw (← eq, not-false q hq, ← ey .is S h, not-false y hy, t .missing S h (omega arith)))
+      type-none l = text-refused b o (MediaType name) refl out 14 (numbered 14 (omega arith) (omega arith)) (λ S h. rw (← eq, not-false q hq, ← ey .is S h, not-false y hy, t .missing S h (omega arith)))
 
       pub type-written : r < m → (s : Bytes) → (Sound b → r < countOf b → s ≡ fieldOf (rowAt b r) 1) → (a : Answer) → a ≡ written (iri.Text s) out → Ran (Prints (MediaType name) out) b a b
       unfolding printed first
