@@ -20,5 +20,5 @@ module _ (s : List ℕ) (i : ItemName) where
       → itemReply (itemName s) ≡ record { number = 0; count = 3; first = n; second = t; third = k }
   piece-reply n x k l t e f g h = rw (← e, f, g, h)
 
-  pub refused-reply : (k : ℕ) → i ≡ itemName s → i ≡ Refused k → itemReply (itemName s) ≡ record { number = k; count = 0; first = 0; second = 0; third = 0 }
+  pub refused-reply : (k : ℕ) → i ≡ itemName s → i ≡ Refused k → itemReply (itemName s) ≡ record { number = k; count = 3; first = 0; second = 0; third = 0 }
   refused-reply k e f = rw (← e, f)

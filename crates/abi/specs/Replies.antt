@@ -34,8 +34,8 @@ abbrev pub kind : Bool → ℕ
 kind true = 2
 kind false = 1
 
--- an item name taken apart: the prefix's length, 0 for a whole item or the piece's kind, the piece's number; or the refusal's number
+-- an item name taken apart: the prefix's length, 0 for a whole item or the piece's kind, the piece's number; or the refusal's number "and 0 for every value"
 abbrev pub itemReply : ItemName → Reply
 itemReply (Named n Whole) = record { number = 0; count = 3; first = n; second = 0; third = 0 }
 itemReply (Named n (Piece k last)) = record { number = 0; count = 3; first = n; second = kind last; third = k }
-itemReply (Refused k) = record { number = k; count = 0; first = 0; second = 0; third = 0 }
+itemReply (Refused k) = record { number = k; count = 3; first = 0; second = 0; third = 0 }

@@ -1,6 +1,5 @@
 // Judgements on names, types and IRIs.
 use crate::replies::Reply;
-use crate::replies::refused;
 use crate::replies::three;
 use chars::folding::Order;
 use chars::folding::compare_folded;
@@ -88,7 +87,7 @@ pub extern "C" fn opc_take_apart(s: &[u8]) -> Reply
             Suffix::Whole => three(0, n, 0, 0),
             Suffix::Piece(k, last) => three(0, n, suffix_kind(last), k),
         },
-        ItemName::Refused(k) => refused(k),
+        ItemName::Refused(k) => three(k, 0, 0, 0),
     }
 }
 

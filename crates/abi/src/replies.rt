@@ -26,18 +26,6 @@ pub struct Reply {
     pub third: u64,
 }
 
-pub(crate) fn refused(n: u8) -> Reply
-    ensures { λ r. ⌜ r ≡ record { number = n; count = 0; first = 0; second = 0; third = 0 } ⌝ }
-{
-    Reply {
-        number: n as u64,
-        count: 0,
-        first: 0,
-        second: 0,
-        third: 0,
-    }
-}
-
 pub(crate) fn one(n: u8, first: usize) -> Reply
     ensures { λ r. ⌜ r ≡ record { number = n; count = 1; first = first; second = 0; third = 0 } ⌝ }
 {

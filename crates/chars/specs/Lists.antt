@@ -6,9 +6,11 @@ use mathlib.Core.List.{List, [], _∷_}
 use lib.Dec.{eqb}
 use lib.ListN.{length, getD, take}
 
+-- the text is empty
 abbrev pub none : List ℕ → Bool
 none s = eqb (length s) 0
 
+-- byte for byte
 unfoldable pub same : List ℕ → List ℕ → Bool
 same [] [] = true
 same [] (y ∷ t) = false
@@ -19,6 +21,7 @@ same (x ∷ s) (y ∷ t) = eqb x y && same s t
 unfoldable pub begins : List ℕ → List ℕ → Bool
 begins t s = same (take (length t) s) t
 
+-- every byte passes p
 unfoldable pub every : (ℕ → Bool) → List ℕ → Bool
 every p [] = true
 every p (x ∷ s) = p x && every p s
@@ -32,9 +35,11 @@ firstOf p (x ∷ s) = cond (p x) 0 (suc (firstOf p s))
 abbrev pub indexOf : ℕ → List ℕ → ℕ
 indexOf b s = firstOf (λ (x : ℕ). eqb x b) s
 
+-- b stands nowhere
 unfoldable pub lacks : ℕ → List ℕ → Bool
 lacks b s = eqb (indexOf b s) (length s)
 
+-- n is `afterLast` of what follows a byte, q tells whether that byte is the one looked for
 abbrev pub afterFirst : Bool → ℕ → ℕ
 afterFirst q zero = cond q 1 0
 afterFirst q (suc n) = suc (suc n)
@@ -44,9 +49,11 @@ unfoldable pub afterLast : ℕ → List ℕ → ℕ
 afterLast b [] = 0
 afterLast b (x ∷ s) = afterFirst (eqb x b) (afterLast b s)
 
+-- 0 for an empty text
 unfoldable pub lastByte : List ℕ → ℕ
 lastByte s = getD s (length s - 1) 0
 
+-- the byte x before stretches l: it begins a new one, or is the first byte of the first
 abbrev pub cut : Bool → ℕ → List (List ℕ) → List (List ℕ)
 cut true x l = [] ∷ l
 cut false x [] = (x ∷ []) ∷ []
@@ -57,6 +64,7 @@ unfoldable pub split : ℕ → List ℕ → List (List ℕ)
 split b [] = [] ∷ []
 split b (x ∷ s) = cut (eqb x b) x (split b s)
 
+-- every stretch passes p
 abbrev pub all : (List ℕ → Bool) → List (List ℕ) → Bool
 all p [] = true
 all p (x ∷ xs) = p x && all p xs

@@ -12,14 +12,14 @@ use borrow.Author.Tests.{not-true, not-false}
 use Rattle.iri.specs.Scratch.{Sent}
 use Rattle.iri.proofs.Sending.{sent-none, sent-as, sent-rest}
 use Rattle.model.specs.Sets.{Bytes}
-use Rattle.model.specs.Package.{State, content, spelling, mediaTypeOf}
+use Rattle.model.specs.Package.{noItem, State, content, spelling, mediaTypeOf}
 use Rattle.model.specs.Sheet.{partLine}
 use Rattle.model.proofs.FieldSizes.{prefix-few, type-size}
 use Rattle.store.specs.Layout.{countOf}
 use Rattle.store.specs.Rows.{rowAt, fieldOf}
 use Rattle.store.specs.Packages.{Sound}
 use Rattle.contract.specs.Holds.{Holds}
-use Rattle.contract.proofs.ItemRows.{noItem, items-le, item-prefix}
+use Rattle.contract.proofs.ItemRows.{items-le, item-prefix}
 use Rattle.parts.specs.Runs.{run, Judged}
 use Rattle.parts.specs.Copies.{Measured}
 use Rattle.parts.proofs.OutputCopies.{run-cons}

@@ -14,7 +14,7 @@ use Rattle.chars.specs.Folding.{fold, order}
 use Rattle.model.specs.Sets.{Bytes, keyOrder, thenBy, before}
 use Rattle.model.specs.Places.{firstWhere, bound}
 use Rattle.model.specs.Fields.{prefixOf, suffixOf}
-use Rattle.model.specs.Package.{Item, Default, State, keyOfItem, keyOfDefault}
+use Rattle.model.specs.Package.{noItem, Item, Default, State, keyOfItem, keyOfDefault}
 use Rattle.model.proofs.Lists.{each-at}
 use Rattle.store.specs.Layout.{countOf}
 use Rattle.store.specs.Rows.{Row, noRow, rowAt, tagAt, fieldOf}
@@ -25,9 +25,6 @@ use Rattle.contract.specs.Searches.{Bounded}
 use Rattle.contract.proofs.RowKeys.{tag-set, item-row-key, default-row-key}
 use Rattle.contract.proofs.RowOrders.{set-bound, others-above, defaults-above, items-below, holds-ordered}
 use Rattle.contract.proofs.RowCharges.{count-rows}
-
-pub noItem : Item
-noItem = record { name = []; bytes = [] }
 
 getD-front : {E F : Type 0} (f : E → F) (l : List E) (m : List F) (i : ℕ) (d : E) (e : F) → i < length l → getD (map f l ++ m) i e ≡ f (getD l i d)
 getD-front f [] m i d e h = absurd (omega arith)

@@ -58,10 +58,11 @@ slashed b = cond (eqb b comma) slash b
 unfoldable pub lowTriplet : ℕ → ℕ → ℕ → Bool
 lowTriplet a b c = eqb a percent && hexDigit b && hexDigit c && ltb (stands b c) 0x80
 
--- "become characters, once": from left to right, k bytes being passed over first. The byte b, before s, begins a triplet or stands for itself
+-- the character of a triplet, or the byte itself
 abbrev pub character : Bool → ℕ → ℕ → ℕ → ℕ
 character low a b c = cond low (stands b c) a
 
+-- "become characters, once": from left to right, k bytes being passed over first
 unfoldable pub decoded : ℕ → List ℕ → List ℕ
 decoded k [] = []
 decoded (suc k) (b ∷ s) = decoded k s
@@ -94,10 +95,12 @@ pub data Location : Type 0 where
   Found : List ℕ → List ℕ → Location
   Not : ℕ → Location
 
+-- "else 9"
 abbrev pub found : Bool → List ℕ → List ℕ → Location
 found true p n = Found p n
 found false p n = Not 9
 
+-- "Resolving": "the result must be a package IRI ..; any other path must be a part name, else 9 (reserved ones pass)"
 unfoldable pub resolvePack : List ℕ → Location
 resolvePack s =
     found (packForm s && unfragmentedIri (packageOf (drop 2 (authorityOf s)))) (packageOf (drop 2 (authorityOf s))) (partOf (pathOf s))

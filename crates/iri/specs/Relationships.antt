@@ -17,6 +17,7 @@ use Rattle.iri.specs.Answers.{Outcome, Text, unless, passing}
 unfoldable pub relationshipsOf : List ℕ → List ℕ
 relationshipsOf s = take (afterLast slash s) s ++ (ascii "_rels/" ++ (lastSegment s ++ ascii ".rels"))
 
+-- its source by 4, then 5
 unfoldable pub relationshipsPart : List ℕ → Outcome
 relationshipsPart s = passing (sourceRefusal s) (Text (relationshipsOf s))
 

@@ -30,7 +30,8 @@ unfoldable pub internalRefusal : List ℕ → List ℕ → ℕ
 internalRefusal source target =
     cond (internal target && partName (resolvePath source target)) (cond (reserved (resolvePath source target)) 5 0) 9
 
--- "a mode (0 internal, 1 external) and a target. An external target is an IRI."
+-- "a mode (0 internal, 1 external) and a target. An external target is an IRI." (A mode above 1 is refused by 8 before this is asked; here it
+-- counts as external.)
 unfoldable pub targetRefusal : ℕ → List ℕ → List ℕ → ℕ
 targetRefusal mode source target = cond (eqb mode 0) (internalRefusal source target) (cond (iri target) 0 9)
 

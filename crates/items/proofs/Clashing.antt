@@ -16,7 +16,7 @@ use Rattle.chars.proofs.Bools.{and-left, and-right}
 use Rattle.model.specs.Sets.{Bytes, before, sameKey, held, lookup, any}
 use Rattle.model.specs.Places.{bound, place}
 use Rattle.model.specs.Fields.{first, prefixOf, suffixOf}
-use Rattle.model.specs.Package.{State, Item, itemKey, keyOfItem, group, disagrees, grows}
+use Rattle.model.specs.Package.{noItem, State, Item, itemKey, keyOfItem, group, disagrees, grows}
 use Rattle.model.specs.Calls.{clash}
 use Rattle.model.proofs.Numbers.{numbered, zero-numbered}
 use Rattle.model.proofs.Lists.{any-map, any-same}
@@ -29,7 +29,7 @@ use Rattle.store.specs.Rows.{Row}
 use Rattle.contract.specs.Rows.{tagOf, itemRow, otherRows, rowsFor, keyIn}
 use Rattle.contract.specs.Holds.{Holds}
 use Rattle.contract.specs.Searches.{Bounded, Counted}
-use Rattle.contract.proofs.ItemRows.{noItem, item-tag, item-prefix}
+use Rattle.contract.proofs.ItemRows.{item-tag, item-prefix}
 use Rattle.items.specs.Clashes.{tagsDisagree, Grown, common, partedAt, Parted, extends, extendedAt, Extended, keyedAt, Keyed, opposedAt, Opposed, OpposedBefore, Clashing}
 use Rattle.items.proofs.Tags.{tags-disagree-is}
 use Rattle.items.proofs.Naming.{prefix-take}

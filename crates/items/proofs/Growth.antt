@@ -21,7 +21,7 @@ use Rattle.names.specs.Names.{partName}
 use Rattle.model.specs.Sets.{Bytes, Key, thenBy, keyOrder, isLess, before, any}
 use Rattle.model.specs.Places.{firstWhere, bound}
 use Rattle.model.specs.Fields.{prefixOf}
-use Rattle.model.specs.Package.{Item, State, itemKey, keyOfItem, grows}
+use Rattle.model.specs.Package.{noItem, Item, State, itemKey, keyOfItem, grows}
 use Rattle.model.specs.Good.{Good, Beside}
 use Rattle.model.proofs.Bools.{not-passing}
 use Rattle.model.proofs.Lists.{append-nil, pairs-at, each-at}
@@ -29,7 +29,6 @@ use Rattle.model.proofs.Walks.{first-le, first-lt, first-passes, first-le-passi
 use Rattle.model.proofs.Places.{not-before-monotone}
 use Rattle.model.proofs.ItemNames.{prefixes-named}
 use Rattle.model.proofs.Slashes.{part-no-slash, begins-between}
-use Rattle.contract.proofs.ItemRows.{noItem}
 use Rattle.items.specs.Clashes.{common, extends}
 use Rattle.items.proofs.CommonStarts.{common-append}
 

@@ -15,7 +15,7 @@ use Rattle.names.specs.declared.items.Suffix.{Suffix}
 use Rattle.model.specs.Sets.{Bytes, Key, sameKey, lookup, Sorted}
 use Rattle.model.specs.Places.{bound, spot}
 use Rattle.model.specs.Fields.{prefixOf, suffixOf, last}
-use Rattle.model.specs.Package.{State, Item, rank, itemKey, keyOfItem, sameLast, itemAt}
+use Rattle.model.specs.Package.{noItem, State, Item, rank, itemKey, keyOfItem, sameLast, itemAt}
 use Rattle.model.proofs.Bools.{beq-refl, not-passing}
 use Rattle.model.proofs.Places.{bound-hit, bound-miss, lookup-at}
 use Rattle.model.proofs.Keys.{same-item-key}
@@ -27,7 +27,7 @@ use Rattle.contract.specs.Rows.{tagOf, keyIn}
 use Rattle.contract.specs.Holds.{Holds}
 use Rattle.contract.specs.Searches.{Bounded}
 use Rattle.contract.proofs.RowKeys.{tag-small, tag-half}
-use Rattle.contract.proofs.ItemRows.{noItem, items-le, item-tag, item-prefix, item-bound, other-tag}
+use Rattle.contract.proofs.ItemRows.{items-le, item-tag, item-prefix, item-bound, other-tag}
 use Rattle.items.specs.Wants.{Found, Located}
 use Rattle.items.proofs.Tags.{tag-odd, tag-is}
 use Rattle.items.proofs.Naming.{prefix-take}

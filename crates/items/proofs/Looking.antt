@@ -11,7 +11,7 @@ use borrow.Author.Tests.{ne-eqb}
 use Rattle.iri.specs.Answers.{answer}
 use Rattle.model.specs.Sets.{Bytes}
 use Rattle.model.specs.Fields.{first, prefixOf, suffixOf, askedField}
-use Rattle.model.specs.Package.{State, Item, itemAt}
+use Rattle.model.specs.Package.{noItem, State, Item, itemAt}
 use Rattle.model.specs.Calls.{Numbered, Looks, Find, View, refused, askedRefusal, look}
 use Rattle.model.proofs.Numbers.{numbered, zero-numbered, asked-field-numbered}
 use Rattle.store.specs.Layout.{countOf}
@@ -22,7 +22,7 @@ use Rattle.contract.specs.Answers.{ofView}
 use Rattle.contract.specs.Holds.{Holds}
 use Rattle.contract.specs.Ran.{Ran}
 use Rattle.contract.proofs.Rans.{looks-foreign, looked, closed, opened}
-use Rattle.contract.proofs.ItemRows.{noItem, item-bytes}
+use Rattle.contract.proofs.ItemRows.{item-bytes}
 use Rattle.items.specs.Wants.{wanted, Located}
 use Rattle.items.specs.declared.wanted.Wanted.{Wanted}
 use Rattle.items.specs.declared.wanted.Wanted.the-variants.{Named, Refused}

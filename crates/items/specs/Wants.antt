@@ -9,12 +9,11 @@ use lib.Dec.{eqb}
 use lib.ListN.{length, getD}
 use Rattle.model.specs.Sets.{Bytes}
 use Rattle.model.specs.Fields.{prefixOf, suffixOf}
-use Rattle.model.specs.Package.{State, itemKey, keyOfItem, itemAt}
+use Rattle.model.specs.Package.{State, noItem, itemKey, keyOfItem, itemAt}
 use Rattle.model.specs.Places.{spot}
 use Rattle.store.specs.Layout.{countOf}
 use Rattle.contract.specs.Rows.{tagOf}
 use Rattle.contract.specs.Holds.{Holds}
-use Rattle.contract.proofs.ItemRows.{noItem}
 use Rattle.items.specs.declared.wanted.Wanted.{Wanted}
 use Rattle.items.specs.declared.wanted.Wanted.the-variants.{Named, Refused}
 

@@ -97,7 +97,7 @@ withOverrides S l = record { capacity = S .capacity; items = S .items; defaults 
 abbrev pub withRelationships : State → List Relationship → State
 withRelationships S l = record { capacity = S .capacity; items = S .items; defaults = S .defaults; overrides = S .overrides; relationships = l }
 
--- "15 a set is full or the charge would pass C"
+-- "15 a set is full or the charge would pass C"; "Freed charge is usable again": what is held now is summed
 abbrev pub noRoom : ℕ → ℕ → ℕ → State → Bool
 noRoom limit count added S = leb limit count || ltb (S .capacity) (charge S + added)
 
@@ -259,6 +259,7 @@ printed S size (PartAt position) =
 printed S size (ResolveRelationship source id base) =
     unless (first (sourceField source ∷ idField id ∷ packageField base ∷ []))
     (resolved S base (lookup keyOfRelationship (relationshipKey source id) (S .relationships)))
+-- "write types, write relationships of a source: XML lines"
 printed S size WriteTypes = Text (typesText S) []
 -- "A source without relationships, held or not, gets no entry lines."
 printed S size (WriteRelationships source) = unless (sourceField source) (Text (relationshipsText source S) [])

@@ -104,6 +104,10 @@ relationshipCharge r = length (r .source) + length (r .id) + length (r .type) + 
 unfoldable pub charge : State → ℕ
 charge S = sumOf itemCharge (S .items) + sumOf defaultCharge (S .defaults) + sumOf overrideCharge (S .overrides) + sumOf relationshipCharge (S .relationships)
 
+-- no item: what `getD` gives past the last
+abbrev pub noItem : Item
+noItem = record { name = []; bytes = [] }
+
 -- GROUPS AND PARTS. A group is document 01's word for the items of one part, finished or not: "Items with equivalent prefixes form a group."
 -- The group of a prefix stands in the order of the keys, so its pieces by number
 unfoldable pub group : Bytes → List Item → List Item
@@ -115,7 +119,7 @@ completeFrom k [] = false
 completeFrom k (i ∷ []) = eqb (rank (suffixOf (i .name))) (suc k) && last (suffixOf (i .name))
 completeFrom k (i ∷ j ∷ is) = eqb (rank (suffixOf (i .name))) (suc k) && not (last (suffixOf (i .name))) && completeFrom (suc k) (j ∷ is)
 
--- "A group is a part if it is one whole item, or pieces 0 to n with n the last."
+-- "A group is a part if it is one whole item, or pieces 0 to n with n the last."; "held .. a part while its items make it one"
 unfoldable pub isPart : List Item → Bool
 isPart g = eqb (length g) 1 && any (λ (i : Item). whole (suffixOf (i .name))) g || completeFrom 0 g
 
@@ -123,7 +127,7 @@ isPart g = eqb (length g) 1 && any (λ (i : Item). whole (suffixOf (i .name))) g
 unfoldable pub content : List Item → Bytes
 content g = joined (λ (i : Item). i .bytes) g
 
--- "its spelling is the whole item's or piece 0's": the prefix of the first item
+-- "its spelling is the whole item's or piece 0's": the prefix of the first item, so a piece's without its suffix
 unfoldable pub spelling : List Item → Bytes
 spelling [] = []
 spelling (i ∷ is) = prefixOf (i .name)
@@ -141,7 +145,7 @@ unfoldable pub parts : List Item → List (List Item)
 parts is = those isPart (groups is)
 
 -- "12 pieces disagree: whole beside piece, second last, a k above the last, a last below a held k": a new suffix beside a held one of its
--- group. (Where no two numbers are equal, which is 10, the other two imply "second last".)
+-- group. (Where no two numbers are equal, which is 10, "second last" implies one of the other two.)
 abbrev pub disagrees : Suffix → Suffix → Bool
 disagrees Whole Whole = false
 disagrees Whole (Piece j m) = true
@@ -160,10 +164,11 @@ sameLast l (some i) = cond (Bool·beq l (last (suffixOf (i .name)))) (some i) no
 unfoldable pub itemAt : Bytes → List Item → Option Item
 itemAt s is = sameLast (last (suffixOf s)) (lookup keyOfItem (itemKey s) is)
 
--- "A name's extension follows the last dot of its last segment; without a dot it has none."
+-- "A name's extension follows the last dot of its last segment": asked for only where there is a dot
 abbrev pub extensionOf : Bytes → Bytes
 extensionOf s = drop (extensionAt s) s
 
+-- "without a dot it has none"
 abbrev pub defaultFor : Bytes → List Default → Option Default
 defaultFor s ds = cond (eqb (extensionAt s) 0) none (lookup keyOfDefault (nameKey (extensionOf s)) ds)
 

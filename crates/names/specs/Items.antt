@@ -37,7 +37,7 @@ abbrev pub named : Bool → ℕ → Suffix → ItemName
 named true n x = Named n x
 named false n x = Refused 4
 
--- "6 what follows an item name's last slash begins with `[` and makes no suffix"
+-- "6 what follows an item name's last slash begins with `[` and makes no suffix"; "The suffix doesn't count towards the 255": p is the prefix alone
 abbrev pub asPiece : Suffix → List ℕ → ItemName
 asPiece Whole p = Refused 6
 asPiece (Piece k l) p = named (partName p) (length p) (Piece k l)
@@ -59,7 +59,7 @@ abbrev pub itemRefusal : ItemName → ℕ
 itemRefusal (Named n x) = 0
 itemRefusal (Refused k) = k
 
--- a prefix and a suffix put together, in lower case
+-- a prefix and a suffix put together, in lower case: taken apart, it gives the two again (`proofs/Spelling.antt`)
 abbrev pub lastText : Bool → List ℕ
 lastText true = ascii "].last.piece"
 lastText false = ascii "].piece"

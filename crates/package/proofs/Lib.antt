@@ -1,1 +1,2 @@
+pub mod EveryCall
 pub mod EveryRun

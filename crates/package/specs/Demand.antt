@@ -1,20 +1,33 @@
--- Demand 3: what holds of every list of calls on one package just started. `proofs/EveryRun.antt` proves it.
+-- Demand 1 for every call on every buffer, the test of a buffer, and demand 3 for every list of calls on one package just started.
+-- `proofs/EveryCall.antt` and `proofs/EveryRun.antt` prove them.
 -- Assumes nothing.
-use Prim.Native.Nat.{ℕ, _+_, _≤_}
+use Prim.Native.Nat.{ℕ, _+_, _≤_, _<_}
 use mathlib.Core.Path.{_≡_}
 use mathlib.Core.Bool.{true, false, _||_}
 use mathlib.Core.List.{List, [], _∷_, map}
-use lib.ListN.{length}
+use lib.ListN.{length, getD}
 use Rattle.chars.specs.Folding.{equivalent, derivable}
 use Rattle.iri.specs.Answers.{Answer, answer}
 use Rattle.model.specs.Sets.{Key, sameKey, sumOf, Pairs}
 use Rattle.model.specs.Fields.{prefixOf, suffixOf, whole}
 use Rattle.model.specs.Package.{Item, State, empty, itemLimit, defaultLimit, overrideLimit, relationshipLimit, rank, keyOfItem, keyOfDefault, keyOfOverride, keyOfRelationship, itemCharge, defaultCharge, overrideCharge, relationshipCharge, charge, parts}
-use Rattle.model.specs.Calls.{Call, Start, Looks, Totals, step, answers, after}
+use Rattle.model.specs.Calls.{Call, Start, Looks, Totals, step, answers, after, lent}
+use Rattle.store.specs.Packages.{isPackage}
 use Rattle.contract.specs.Holds.{Holds}
 use Rattle.contract.specs.Ran.{Ran, Runs}
 
--- a set: at most so many entries, and no key twice
+-- DEMAND 1. A call on any bytes "refuses by a number from document 01 .., and after a refusal the package and every lent output hold what
+-- they held". (That it ends, every function's theorem says.)
+abbrev pub EveryCall : Type 0
+EveryCall = (c : Call) (p q : List ℕ) (a : Answer) → Ran c p a q → (a .number ≤ 16) × ((a .number ≡ 0 → ⊥) → (q ≡ p) × (a .output ≡ lent c))
+
+-- THE TEST. "packages made by these calls always pass, a buffer below 32,768 bytes or of zeros only never does"
+pub record EveryTest : Type 0 where
+  pub made : (b : List ℕ) (S : State) → Holds b S → isPackage b ≡ true
+  pub short : (b : List ℕ) → length b < 32768 → isPackage b ≡ false
+  pub zeros : (b : List ℕ) → ((i : ℕ) → getD b i 0 ≡ 0) → isPackage b ≡ false
+
+-- DEMAND 3. A set: at most so many entries, and no key twice
 module _ {E : Type 0} (key : E → Key) (limit : ℕ) where
   pub record Limited (xs : List E) : Type 0 where
     pub few : length xs ≤ limit

@@ -19,7 +19,7 @@ use Rattle.names.specs.declared.items.Suffix.the-variants.{Whole, Piece}
 use Rattle.model.specs.Sets.{Bytes, Key, thenBy, keyOrder, isLess, before, Sorted}
 use Rattle.model.specs.Places.{bound, lead}
 use Rattle.model.specs.Fields.{prefixOf, suffixOf, whole}
-use Rattle.model.specs.Package.{Item, State, rank, keyOfItem}
+use Rattle.model.specs.Package.{noItem, Item, State, rank, keyOfItem}
 use Rattle.model.specs.Good.{Beside}
 use Rattle.model.proofs.Bools.{not-passing}
 use Rattle.model.proofs.Lists.{pairs-at}
@@ -32,7 +32,7 @@ use Rattle.store.specs.Packages.{Shape, Sound}
 use Rattle.contract.specs.Rows.{tagOf, keyIn}
 use Rattle.contract.specs.Holds.{Holds}
 use Rattle.contract.specs.Searches.{Bounded}
-use Rattle.contract.proofs.ItemRows.{noItem, items-le, item-tag, item-prefix, item-bound}
+use Rattle.contract.proofs.ItemRows.{items-le, item-tag, item-prefix, item-bound}
 use Rattle.contract.proofs.RowKeys.{tag-small, tag-half}
 use Rattle.parts.specs.Runs.{inGroup, Ending, Ended, EndedBehind}
 use Rattle.parts.proofs.GroupRuns.{ending-more}

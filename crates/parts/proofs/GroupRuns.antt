@@ -13,7 +13,7 @@ use Rattle.chars.proofs.Equivalence.{equivalent-fold, fold-equivalent}
 use Rattle.model.specs.Sets.{Bytes, before, any, Each, Pairs, Sorted}
 use Rattle.model.specs.Places.{firstWhere, bound, lead}
 use Rattle.model.specs.Fields.{prefixOf}
-use Rattle.model.specs.Package.{Item, State, rank, keyOfItem, completeFrom, isPart, disagrees}
+use Rattle.model.specs.Package.{noItem, Item, State, rank, keyOfItem, completeFrom, isPart, disagrees}
 use Rattle.model.specs.Good.{Beside}
 use Rattle.model.proofs.Lists.{pairs-map, pairs-drop, pairs-take, pairs-both, pairs-each}
 use Rattle.model.proofs.Walks.{first-le, walk-step, walk-stop, lead-take}
@@ -26,7 +26,7 @@ use Rattle.store.specs.Packages.{Shape, Sound}
 use Rattle.contract.specs.Rows.{keyIn}
 use Rattle.contract.specs.Holds.{Holds}
 use Rattle.contract.specs.Searches.{Bounded, Counted}
-use Rattle.contract.proofs.ItemRows.{noItem, items-le, item-tag, item-prefix, item-bound}
+use Rattle.contract.proofs.ItemRows.{items-le, item-tag, item-prefix, item-bound}
 use Rattle.parts.specs.Runs.{run, inGroup, Ending, Ended, Judged, Grouped, PartOf}
 use Rattle.parts.proofs.LastItems.{mark, tagIn, Numbered, Agreeing, part-told}
 

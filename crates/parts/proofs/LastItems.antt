@@ -13,11 +13,10 @@ use Rattle.names.specs.declared.items.Suffix.the-variants.{Whole, Piece}
 use Rattle.chars.proofs.Bools.{and-false}
 use Rattle.model.specs.Sets.{any, Pairs}
 use Rattle.model.specs.Fields.{suffixOf, whole, last}
-use Rattle.model.specs.Package.{Item, rank, completeFrom, isPart, disagrees}
+use Rattle.model.specs.Package.{noItem, Item, rank, completeFrom, isPart, disagrees}
 use Rattle.model.proofs.Lists.{each-at}
 use Rattle.contract.specs.Rows.{tagOf}
 use Rattle.contract.proofs.RowKeys.{tag-half}
-use Rattle.contract.proofs.ItemRows.{noItem}
 
 -- the suffix of an item, and its tag
 abbrev pub mark : Item → Suffix

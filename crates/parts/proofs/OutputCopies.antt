@@ -15,7 +15,7 @@ use Rattle.iri.specs.Answers.{answer, written, Text}
 use Rattle.iri.specs.Scratch.{Sent}
 use Rattle.iri.proofs.Sending.{sent-none, sent-more, answer-bytes}
 use Rattle.model.specs.Sets.{joined}
-use Rattle.model.specs.Package.{Item, State, content}
+use Rattle.model.specs.Package.{noItem, Item, State, content}
 use Rattle.model.proofs.Lists.{append-nil}
 use Rattle.model.proofs.Contents.{read-piece}
 use Rattle.store.specs.Buffer.{splice}
@@ -23,7 +23,7 @@ use Rattle.store.specs.Layout.{countOf}
 use Rattle.store.specs.Rows.{rowAt, fieldOf}
 use Rattle.store.specs.Packages.{Sound}
 use Rattle.contract.specs.Holds.{Holds}
-use Rattle.contract.proofs.ItemRows.{noItem, items-le, item-bytes}
+use Rattle.contract.proofs.ItemRows.{items-le, item-bytes}
 use Rattle.parts.specs.Runs.{run}
 use Rattle.parts.specs.Copies.{taken, Copying, Copied, Measuring, Measured}
 

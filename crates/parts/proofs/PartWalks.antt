@@ -13,7 +13,7 @@ use borrow.Author.Tests.{eqb-true, eqb-false}
 use Rattle.chars.proofs.Bools.{and-left, and-right}
 use Rattle.model.specs.Sets.{Bytes, before, Each, Sorted, those}
 use Rattle.model.specs.Fields.{prefixOf}
-use Rattle.model.specs.Package.{Item, State, keyOfItem, isPart, leaders, parts, spelling}
+use Rattle.model.specs.Package.{noItem, Item, State, keyOfItem, isPart, leaders, parts, spelling}
 use Rattle.model.proofs.Lists.{pairs-drop}
 use Rattle.model.proofs.Walks.{lead-take}
 use Rattle.model.proofs.Groups.{own}
@@ -22,7 +22,7 @@ use Rattle.store.specs.Layout.{countOf}
 use Rattle.store.specs.Rows.{rowAt, fieldOf}
 use Rattle.store.specs.Packages.{Sound}
 use Rattle.contract.specs.Holds.{Holds}
-use Rattle.contract.proofs.ItemRows.{noItem, items-le, item-prefix}
+use Rattle.contract.proofs.ItemRows.{items-le, item-prefix}
 use Rattle.parts.specs.Runs.{run, inGroup, Ended, Judged}
 use Rattle.parts.specs.Walks.{Walking, Walked}
 

@@ -28,8 +28,8 @@ three-requires-2 c κs = search needs
 enum-known-k : tie.Need-enum-known-k
 enum-known-k c = search needs
 
-refused-requires : tie.Need-refused-requires
-refused-requires c κs = search needs
+three-requires-3 : tie.Need-three-requires-3
+three-requires-3 c κs = search needs
 
 returns : tie.Need-returns
 returns c = c .three .ensures ∙ sym (whole-reply _ _ _ _ (c .before .before .before .before .before .before .take-apart .ensures) (c .before .before .before .before .n .given .1) (c .before .enum-told .given .1))
@@ -38,7 +38,7 @@ returns-2 : tie.Need-returns-2
 returns-2 c = c .three2 .ensures ∙ sym (piece-reply _ _ _ _ _ _ _ (c .before .before .before .before .before .before .before .before .take-apart .ensures) (c .before .before .before .before .before .before .n .given .1) (c .before .before .before .x .given .1) (c .before .suffix-kind .ensures))
 
 returns-3 : tie.Need-returns-3
-returns-3 c = c .refused .ensures ∙ sym (refused-reply _ _ _ (c .before .before .before .before .take-apart .ensures) (c .before .before .k .given .1))
+returns-3 c = c .three3 .ensures ∙ sym (refused-reply _ _ _ (c .before .before .before .before .take-apart .ensures) (c .before .before .k .given .1))
 
 pub opc-take-apart-spec : {M : Type 1} → statement M
 opc-take-apart-spec =
@@ -52,7 +52,7 @@ opc-take-apart-spec =
     suffix-kind-requires
     three-requires-2
     enum-known-k
-    refused-requires
+    three-requires-3
     returns
     returns-2
     returns-3)
