@@ -62,7 +62,7 @@ fn tile(i: usize) -> Vec<u8> {
 /// The same name as a count sheet may spell it.
 fn asked(i: usize) -> Vec<u8> {
     let mut name = tile(i);
-    if i.is_multiple_of(2) {
+    if i % 2 == 0 {
         name.make_ascii_uppercase();
     }
     name

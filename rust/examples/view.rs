@@ -9,7 +9,7 @@
 use std::error::Error;
 use std::path::Path;
 use std::{env, fs};
-use zombirels::package::{Mode, Package, Resolved, Totals, OVERHEAD};
+use zombirels::package::{Mode, Package, PackageRef, Resolved, Totals, OVERHEAD};
 use zombirels::Refusal;
 
 const CAPACITY: usize = 30_000;
@@ -39,9 +39,11 @@ fn main() -> Result<(), Box<dyn Error>> {
     println!("Loading");
     load(&mut slide, &sheet);
     let links = load_links(&mut slide, &links);
-    show_parts(&slide)?;
-    show_links(&slide, &links)?;
-    show_streams(&slide, &links)?;
+
+    let slide = PackageRef::open(&buffer);
+    show_parts(slide)?;
+    show_links(slide, &links)?;
+    show_streams(slide, &links)?;
     Ok(())
 }
 
@@ -95,7 +97,7 @@ fn load_links<'a>(slide: &mut Package, links: &'a [u8]) -> Vec<Link<'a>> {
 }
 
 /// The parts in folded order, with their pieces, sizes and media types.
-fn show_parts(slide: &Package) -> Result<(), Refusal> {
+fn show_parts(slide: PackageRef) -> Result<(), Refusal> {
     let Totals {
         items,
         parts,
@@ -121,7 +123,7 @@ fn show_parts(slide: &Package) -> Result<(), Refusal> {
 }
 
 /// The lengths of a part's items: one if it is whole, else of its pieces.
-fn sizes(slide: &Package, part: &[u8]) -> Result<Vec<usize>, Refusal> {
+fn sizes(slide: PackageRef, part: &[u8]) -> Result<Vec<usize>, Refusal> {
     match slide.find_item(part) {
         Ok(length) => return Ok(vec![length]),
         Err(Refusal::NotHeld) => {}
@@ -144,13 +146,13 @@ fn sizes(slide: &Package, part: &[u8]) -> Result<Vec<usize>, Refusal> {
 }
 
 /// The first bytes of a part's content.
-fn begin(slide: &Package, part: &[u8]) -> Result<String, Refusal> {
+fn begin(slide: PackageRef, part: &[u8]) -> Result<String, Refusal> {
     let mut out = [0; 48];
     let length = slide.read_part(part, 0, &mut out)?;
     Ok(out[..length].escape_ascii().to_string())
 }
 
-fn media_type(slide: &Package, part: &[u8]) -> Result<String, Refusal> {
+fn media_type(slide: PackageRef, part: &[u8]) -> Result<String, Refusal> {
     let mut out = [0; 127];
     match slide.media_type(part, &mut out) {
         Ok(length) => Ok(text(&out[..length])),
@@ -160,7 +162,7 @@ fn media_type(slide: &Package, part: &[u8]) -> Result<String, Refusal> {
 }
 
 /// Where each link leads, and whether the part is there.
-fn show_links(slide: &Package, links: &[Link]) -> Result<(), Refusal> {
+fn show_links(slide: PackageRef, links: &[Link]) -> Result<(), Refusal> {
     println!("\n{} links", links.len());
     let mut out = [0; 1027];
     for Link { source, id, .. } in links {
@@ -178,7 +180,7 @@ fn show_links(slide: &Package, links: &[Link]) -> Result<(), Refusal> {
 }
 
 /// The types, and the relationships of each source, as they are stored.
-fn show_streams(slide: &Package, links: &[Link]) -> Result<(), Refusal> {
+fn show_streams(slide: PackageRef, links: &[Link]) -> Result<(), Refusal> {
     let types = written(|out| slide.write_types(out))?;
     println!("\nTypes\n{}", text(&types));
     let mut sources: Vec<&[u8]> = links.iter().map(|link| link.source).collect();

@@ -16,12 +16,14 @@ use crate::Refusal;
 /// assert!(is_iri(b"../tiles/t3.tiff#left"));
 /// assert!(!is_iri(b"1a:b"));
 /// ```
+#[must_use]
 pub fn is_iri(text: &[u8]) -> bool {
     // SAFETY: pointer and length come from one slice.
     unsafe { ffi::opc_is_iri(text.as_ptr(), text.len()) }
 }
 
 /// Whether `text` can name a package: an IRI with a scheme.
+#[must_use]
 pub fn is_package_iri(text: &[u8]) -> bool {
     // SAFETY: pointer and length come from one slice.
     unsafe { ffi::opc_is_package_iri(text.as_ptr(), text.len()) }
@@ -33,11 +35,12 @@ pub fn is_package_iri(text: &[u8]) -> bool {
 /// # Errors
 ///
 /// [`Refusal::BadTarget`] if `base` is no package IRI or `reference` no IRI;
-/// [`Refusal::OutputTooShort`].
+/// [`Refusal::OutputTooShort`]. 511 bytes always suffice: those of both IRIs,
+/// and a slash where `base` has an authority and no path.
 ///
 /// ```
 /// use zombirels::iri::resolve_reference;
-/// let mut out = [0; 64];
+/// let mut out = [0; 511];
 /// let base = b"http://www.example.com/ex.opc";
 /// let length = resolve_reference(base, b"b.xml", &mut out).unwrap();
 /// assert_eq!(&out[..length], b"http://www.example.com/b.xml");
@@ -65,11 +68,12 @@ pub fn resolve_reference(base: &[u8], reference: &[u8], out: &mut [u8]) -> Resul
 /// [`Refusal::NotAPartName`] or [`Refusal::Reserved`] for the source;
 /// [`Refusal::BadTarget`] if the target doesn't lead to a part name;
 /// [`Refusal::Reserved`] if it leads to a reserved one;
-/// [`Refusal::OutputTooShort`].
+/// [`Refusal::OutputTooShort`]. 255 bytes always suffice, as for every part
+/// name.
 ///
 /// ```
 /// use zombirels::iri::resolve_target;
-/// let mut out = [0; 64];
+/// let mut out = [0; 255];
 /// let length = resolve_target(b"/a/b/c", b"../../g", &mut out).unwrap();
 /// assert_eq!(&out[..length], b"/g");
 /// ```
@@ -179,7 +183,7 @@ pub fn relationships_part(source: &[u8], out: &mut [u8]) -> Result<usize, Refusa
 /// # Errors
 ///
 /// [`Refusal::NotAPartName`] if `name` is the Relationships part of no
-/// source; [`Refusal::OutputTooShort`].
+/// source; [`Refusal::OutputTooShort`]. 255 bytes always suffice.
 ///
 /// ```
 /// use zombirels::iri::source_of_relationships_part;

@@ -21,6 +21,8 @@
 //! assert!(item.piece.unwrap().last);
 //! ```
 
+#![warn(missing_docs)]
+
 mod ffi;
 pub mod iri;
 pub mod names;

@@ -16,6 +16,7 @@ use std::cmp::Ordering;
 /// assert!(is_part_name(b"/hello/world/doc.xml"));
 /// assert!(!is_part_name(b"/a/b."));
 /// ```
+#[must_use]
 pub fn is_part_name(name: &[u8]) -> bool {
     // SAFETY: pointer and length come from one slice.
     unsafe { ffi::opc_is_part_name(name.as_ptr(), name.len()) }
@@ -24,12 +25,14 @@ pub fn is_part_name(name: &[u8]) -> bool {
 /// Whether the part name `name` is reserved for Relationships parts: it ends
 /// in `.rels` and its second-to-last segment is `_rels`, in either case. For
 /// other bytes than a part name the answer means nothing.
+#[must_use]
 pub fn is_reserved(name: &[u8]) -> bool {
     // SAFETY: pointer and length come from one slice.
     unsafe { ffi::opc_is_reserved(name.as_ptr(), name.len()) }
 }
 
 /// Whether `a` and `b` are equal but for the case of ASCII letters.
+#[must_use]
 pub fn is_equivalent(a: &[u8], b: &[u8]) -> bool {
     // SAFETY: each pointer and its length come from one slice.
     unsafe { ffi::opc_is_equivalent(a.as_ptr(), a.len(), b.as_ptr(), b.len()) }
@@ -37,6 +40,7 @@ pub fn is_equivalent(a: &[u8], b: &[u8]) -> bool {
 
 /// Whether `a` grows out of `b`: folded, it is `b`, then a slash, then more.
 /// No package holds both.
+#[must_use]
 pub fn is_derivable(a: &[u8], b: &[u8]) -> bool {
     // SAFETY: each pointer and its length come from one slice.
     unsafe { ffi::opc_is_derivable(a.as_ptr(), a.len(), b.as_ptr(), b.len()) }
@@ -44,12 +48,14 @@ pub fn is_derivable(a: &[u8], b: &[u8]) -> bool {
 
 /// Compares the foldings byte by byte; a proper prefix comes first. This is
 /// the order in which a package lists its parts.
+#[must_use]
 pub fn compare_folded(a: &[u8], b: &[u8]) -> Ordering {
     // SAFETY: each pointer and its length come from one slice.
     match unsafe { ffi::opc_compare_folded(a.as_ptr(), a.len(), b.as_ptr(), b.len()) } {
         0 => Ordering::Less,
         1 => Ordering::Equal,
-        _ => Ordering::Greater,
+        2 => Ordering::Greater,
+        _ => unreachable!("the archive has three orders"),
     }
 }
 
@@ -61,6 +67,7 @@ pub fn compare_folded(a: &[u8], b: &[u8]) -> Ordering {
 /// assert_eq!(extension(b"/tiles.d/t3.ome.tiff"), Some(&b"tiff"[..]));
 /// assert_eq!(extension(b"/tiles.d/t3"), None);
 /// ```
+#[must_use]
 pub fn extension(name: &[u8]) -> Option<&[u8]> {
     // SAFETY: pointer and length come from one slice.
     match unsafe { ffi::opc_extension_at(name.as_ptr(), name.len()) } {
@@ -106,6 +113,7 @@ pub fn take_apart(name: &[u8]) -> Result<ItemName<'_>, Refusal> {
     // SAFETY: pointer and length come from one slice.
     let reply = unsafe { ffi::opc_take_apart(name.as_ptr(), name.len()) };
     let [length, mark, number] = reply.values()?;
+    assert!(mark <= 2, "the archive has three marks");
     let piece = (mark != 0).then_some(Piece {
         number: number as u16,
         last: mark == 2,
@@ -115,6 +123,7 @@ pub fn take_apart(name: &[u8]) -> Result<ItemName<'_>, Refusal> {
 }
 
 /// Whether `text` is a media type: token/token, 3 to 127 bytes.
+#[must_use]
 pub fn is_media_type(text: &[u8]) -> bool {
     // SAFETY: pointer and length come from one slice.
     unsafe { ffi::opc_is_media_type(text.as_ptr(), text.len()) }
@@ -122,6 +131,7 @@ pub fn is_media_type(text: &[u8]) -> bool {
 
 /// Whether `text` is an extension that can get a default media type: 1 to 31
 /// bytes of segment characters without a dot.
+#[must_use]
 pub fn is_extension(text: &[u8]) -> bool {
     // SAFETY: pointer and length come from one slice.
     unsafe { ffi::opc_is_extension(text.as_ptr(), text.len()) }
@@ -129,6 +139,7 @@ pub fn is_extension(text: &[u8]) -> bool {
 
 /// Whether `text` is the id of a relationship: 1 to 63 bytes, a letter or
 /// `_`, then letters, digits, `.`, `_` and `-`.
+#[must_use]
 pub fn is_id(text: &[u8]) -> bool {
     // SAFETY: pointer and length come from one slice.
     unsafe { ffi::opc_is_id(text.as_ptr(), text.len()) }

@@ -11,8 +11,9 @@
 //! the package itself (`/`), to a target.
 //!
 //! The package lies in the caller's bytes and nowhere else: they may be
-//! stored, mapped or sent, and opened again with [`Package::open`]. The
-//! engine allocates nothing.
+//! stored, mapped or sent, and opened again with [`Package::open`], or with
+//! [`PackageRef::open`] where they can only be read. The engine allocates
+//! nothing.
 //!
 //! ```
 //! use zombirels::package::{Package, OVERHEAD};
@@ -30,8 +31,13 @@
 //! # Ok::<(), Refusal>(())
 //! ```
 
+mod package_ref;
+
+pub use package_ref::PackageRef;
+
 use crate::ffi::{self, Reply};
 use crate::Refusal;
+use std::fmt;
 
 /// What the buffer must have beside the capacity, in bytes.
 pub const OVERHEAD: usize = 32_768;
@@ -51,10 +57,24 @@ pub const OVERRIDES_MAX: usize = 64;
 /// How many relationships a package holds at most.
 pub const RELATIONSHIPS_MAX: usize = 256;
 
-/// A package in a lent buffer.
-#[derive(Debug)]
+/// A package in a lent buffer. For one that is only looked at there is
+/// [`PackageRef`].
 pub struct Package<'a> {
     buffer: &'a mut [u8],
+}
+
+/// Shows the length of the buffer, not its bytes.
+impl fmt::Debug for Package<'_> {
+    fn fmt(&self, f: &mut fmt::Formatter<'_>) -> fmt::Result {
+        show(f, "Package", self.buffer)
+    }
+}
+
+/// A lent buffer by its length.
+fn show(f: &mut fmt::Formatter<'_>, name: &str, buffer: &[u8]) -> fmt::Result {
+    f.debug_struct(name)
+        .field("length", &buffer.len())
+        .finish_non_exhaustive()
 }
 
 /// What [`Package::totals`] answers.
@@ -79,6 +99,7 @@ pub enum Mode {
 
 impl Mode {
     /// The number of the mode: 0 internal, 1 external.
+    #[must_use]
     pub fn number(self) -> u64 {
         match self {
             Mode::Internal => 0,
@@ -114,8 +135,8 @@ impl<'a> Package<'a> {
     }
 
     /// Takes `buffer` for a package that was started in it before. Nothing is
-    /// looked at yet: if it is none, every call is refused by
-    /// [`Refusal::NotAPackage`].
+    /// looked at yet: if it is none, every call but [`Package::restart`] is
+    /// refused by [`Refusal::NotAPackage`].
     ///
     /// ```
     /// use zombirels::package::{Package, OVERHEAD};
@@ -126,6 +147,7 @@ impl<'a> Package<'a> {
     /// assert!(Package::open(&mut [0; 100]).totals().is_err());
     /// # Ok::<(), zombirels::Refusal>(())
     /// ```
+    #[must_use]
     pub fn open(buffer: &'a mut [u8]) -> Package<'a> {
         Package { buffer }
     }
@@ -142,12 +164,20 @@ impl<'a> Package<'a> {
         done(reply)
     }
 
+    /// The package as one that is only looked at.
+    #[must_use]
+    pub fn as_package_ref(&self) -> PackageRef<'_> {
+        PackageRef::open(self.buffer)
+    }
+
     /// The lent bytes.
+    #[must_use]
     pub fn as_bytes(&self) -> &[u8] {
         self.buffer
     }
 
     /// Gives the lent bytes back.
+    #[must_use]
     pub fn into_bytes(self) -> &'a mut [u8] {
         self.buffer
     }
@@ -205,16 +235,7 @@ impl<'a> Package<'a> {
     /// [`Refusal::NotAPackage`]; [`Refusal::BadSuffix`] or
     /// [`Refusal::NotAPartName`] for the name; [`Refusal::NotHeld`].
     pub fn find_item(&self, name: &[u8]) -> Result<usize, Refusal> {
-        // SAFETY: each pointer and its length come from one slice.
-        let reply = unsafe {
-            ffi::opc_find_item(
-                self.buffer.as_ptr(),
-                self.buffer.len(),
-                name.as_ptr(),
-                name.len(),
-            )
-        };
-        reply.values().map(|[length]| length)
+        self.as_package_ref().find_item(name)
     }
 
     /// The bytes of an item, where they lie in the package. Where
@@ -229,20 +250,9 @@ impl<'a> Package<'a> {
     /// assert_eq!(slide.view_item(b"/t4"), b"");
     /// # Ok::<(), zombirels::Refusal>(())
     /// ```
+    #[must_use]
     pub fn view_item(&self, name: &[u8]) -> &[u8] {
-        // SAFETY: each pointer and its length come from one slice.
-        let reply = unsafe {
-            ffi::opc_view_item(
-                self.buffer.as_ptr(),
-                self.buffer.len(),
-                name.as_ptr(),
-                name.len(),
-            )
-        };
-        match reply.values() {
-            Ok([offset, length]) => &self.buffer[offset..][..length],
-            Err(_) => &[],
-        }
+        self.as_package_ref().view_item(name)
     }
 
     /// Copies the content of a part from `offset` on, as much as `out` takes,
@@ -269,20 +279,7 @@ impl<'a> Package<'a> {
     /// # Ok::<(), Refusal>(())
     /// ```
     pub fn read_part(&self, name: &[u8], offset: u64, out: &mut [u8]) -> Result<usize, Refusal> {
-        // SAFETY: each pointer and its length come from one slice; the
-        // output's is lent for writing.
-        let reply = unsafe {
-            ffi::opc_read_part(
-                self.buffer.as_ptr(),
-                self.buffer.len(),
-                name.as_ptr(),
-                name.len(),
-                offset,
-                out.as_mut_ptr(),
-                out.len(),
-            )
-        };
-        reply.values().map(|[length]| length)
+        self.as_package_ref().read_part(name, offset, out)
     }
 
     /// Copies the name of the part at a position, from 0, in folded order, and
@@ -309,18 +306,7 @@ impl<'a> Package<'a> {
     /// # Ok::<(), zombirels::Refusal>(())
     /// ```
     pub fn part_at(&self, position: u64, out: &mut [u8]) -> Result<usize, Refusal> {
-        // SAFETY: each pointer and its length come from one slice; the
-        // output's is lent for writing.
-        let reply = unsafe {
-            ffi::opc_part_at(
-                self.buffer.as_ptr(),
-                self.buffer.len(),
-                position,
-                out.as_mut_ptr(),
-                out.len(),
-            )
-        };
-        reply.values().map(|[length]| length)
+        self.as_package_ref().part_at(position, out)
     }
 
     /// How many items are held, how many parts they make, and the charge.
@@ -339,14 +325,7 @@ impl<'a> Package<'a> {
     /// # Ok::<(), zombirels::Refusal>(())
     /// ```
     pub fn totals(&self) -> Result<Totals, Refusal> {
-        // SAFETY: pointer and length come from one slice.
-        let reply = unsafe { ffi::opc_totals(self.buffer.as_ptr(), self.buffer.len()) };
-        let [items, parts, charge] = reply.values()?;
-        Ok(Totals {
-            items,
-            parts,
-            charge,
-        })
+        self.as_package_ref().totals()
     }
 
     /// Holds a Default: the media type of parts whose names have that
@@ -509,19 +488,7 @@ impl<'a> Package<'a> {
     /// # Ok::<(), Refusal>(())
     /// ```
     pub fn media_type(&self, name: &[u8], out: &mut [u8]) -> Result<usize, Refusal> {
-        // SAFETY: each pointer and its length come from one slice; the
-        // output's is lent for writing.
-        let reply = unsafe {
-            ffi::opc_media_type(
-                self.buffer.as_ptr(),
-                self.buffer.len(),
-                name.as_ptr(),
-                name.len(),
-                out.as_mut_ptr(),
-                out.len(),
-            )
-        };
-        reply.values().map(|[length]| length)
+        self.as_package_ref().media_type(name, out)
     }
 
     /// Holds a relationship: from `source`, which is a part name or `/` for
@@ -657,32 +624,8 @@ impl<'a> Package<'a> {
         base: &[u8],
         out: &mut [u8],
     ) -> Result<Resolved, Refusal> {
-        // SAFETY: each pointer and its length come from one slice; the
-        // output's is lent for writing.
-        let reply = unsafe {
-            ffi::opc_resolve_relationship(
-                self.buffer.as_ptr(),
-                self.buffer.len(),
-                source.as_ptr(),
-                source.len(),
-                id.as_ptr(),
-                id.len(),
-                base.as_ptr(),
-                base.len(),
-                out.as_mut_ptr(),
-                out.len(),
-            )
-        };
-        let [length, mode, held] = reply.values()?;
-        let mode = match mode {
-            0 => Mode::Internal,
-            _ => Mode::External,
-        };
-        Ok(Resolved {
-            length,
-            mode,
-            held: held != 0,
-        })
+        self.as_package_ref()
+            .resolve_relationship(source, id, base, out)
     }
 }
 
@@ -716,17 +659,7 @@ impl Package<'_> {
     /// # Ok::<(), Refusal>(())
     /// ```
     pub fn write_types(&self, out: &mut [u8]) -> Result<usize, Refusal> {
-        // SAFETY: each pointer and its length come from one slice; the
-        // output's is lent for writing.
-        let reply = unsafe {
-            ffi::opc_write_types(
-                self.buffer.as_ptr(),
-                self.buffer.len(),
-                out.as_mut_ptr(),
-                out.len(),
-            )
-        };
-        reply.values().map(|[length]| length)
+        self.as_package_ref().write_types(out)
     }
 
     /// Writes the Relationships part of a source, its relationships by id, and
@@ -757,19 +690,7 @@ impl Package<'_> {
     /// # Ok::<(), zombirels::Refusal>(())
     /// ```
     pub fn write_relationships(&self, source: &[u8], out: &mut [u8]) -> Result<usize, Refusal> {
-        // SAFETY: each pointer and its length come from one slice; the
-        // output's is lent for writing.
-        let reply = unsafe {
-            ffi::opc_write_relationships(
-                self.buffer.as_ptr(),
-                self.buffer.len(),
-                source.as_ptr(),
-                source.len(),
-                out.as_mut_ptr(),
-                out.len(),
-            )
-        };
-        reply.values().map(|[length]| length)
+        self.as_package_ref().write_relationships(source, out)
     }
 }
 

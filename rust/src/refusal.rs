@@ -33,7 +33,8 @@ pub enum Refusal {
     Taken,
     /// 11: the name would grow out of a held one, or a held one out of it.
     Derivable,
-    /// 12: the pieces disagree, as with a whole item beside a piece.
+    /// 12: the pieces disagree: a whole item beside a piece, a second last
+    /// piece, a number above the last one's, or a last one below a held number.
     PiecesDisagree,
     /// 13: not held, no part yet, or no such position.
     NotHeld,
@@ -47,6 +48,7 @@ pub enum Refusal {
 
 impl Refusal {
     /// The number of the refusal, 1 to 16.
+    #[must_use]
     pub fn number(self) -> u8 {
         match self {
             Refusal::NotAPackage => 1,
@@ -127,13 +129,21 @@ impl std::error::Error for Refusal {}
 
 impl Reply {
     /// The values of an accepted call, of which `N` must count, or the refusal.
+    /// All others are 0, but for the length that refusal 3 carries.
     pub(crate) fn values<const N: usize>(self) -> Result<[usize; N], Refusal> {
+        let values = [self.first, self.second, self.third];
+        let used = match self.number {
+            0 => N,
+            3 => 1,
+            _ => 0,
+        };
+        let unused = &values[used..];
+        assert!(unused.iter().all(|&value| value == 0), "an unnamed value");
         if self.number != 0 {
             let refusal = Refusal::from_number(self.number, self.first as usize);
             return Err(refusal.expect("the archive knows only refusals 1 to 16"));
         }
         assert_eq!(self.count, N as u64, "values in the archive's answer");
-        let values = [self.first, self.second, self.third];
         Ok(std::array::from_fn(|i| values[i] as usize))
     }
 }
@@ -161,19 +171,43 @@ mod tests {
         assert_eq!(refusal.to_string(), expected);
     }
 
-    #[test]
-    fn replies() {
-        let reply = |number, count| Reply {
+    fn reply(number: u64, count: u64, values: [u64; 3]) -> Reply {
+        let [first, second, third] = values;
+        Reply {
             number,
             count,
-            first: 5,
-            second: 6,
-            third: 7,
-        };
-        assert_eq!(reply(0, 2).values(), Ok([5, 6]));
-        assert_eq!(reply(0, 0).values::<0>(), Ok([]));
-        assert_eq!(reply(4, 0).values::<1>(), Err(Refusal::NotAPartName));
+            first,
+            second,
+            third,
+        }
+    }
+
+    #[test]
+    fn replies() {
+        assert_eq!(reply(0, 2, [5, 6, 0]).values(), Ok([5, 6]));
+        assert_eq!(reply(0, 3, [5, 6, 7]).values(), Ok([5, 6, 7]));
+        assert_eq!(reply(0, 0, [0; 3]).values::<0>(), Ok([]));
+        let no_name = Err(Refusal::NotAPartName);
+        assert_eq!(reply(4, 0, [0; 3]).values::<1>(), no_name);
         let short = Err(Refusal::OutputTooShort { needed: 5 });
-        assert_eq!(reply(3, 1).values::<3>(), short);
+        assert_eq!(reply(3, 1, [5, 0, 0]).values::<3>(), short);
+    }
+
+    #[test]
+    #[should_panic = "an unnamed value"]
+    fn values_past_those_that_count() {
+        reply(0, 2, [5, 6, 7]).values::<2>().ok();
+    }
+
+    #[test]
+    #[should_panic = "an unnamed value"]
+    fn values_of_a_refusal() {
+        reply(4, 1, [5, 0, 0]).values::<1>().ok();
+    }
+
+    #[test]
+    #[should_panic = "an unnamed value"]
+    fn values_past_the_length_needed() {
+        reply(3, 3, [5, 1, 0]).values::<3>().ok();
     }
 }
