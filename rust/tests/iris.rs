@@ -8,6 +8,9 @@ use std::collections::BTreeMap;
 use support::{numbers, show, Random, Tally};
 use zombirels::iri;
 
+/// What stands on both sides of an output and must stay.
+const GUARD: usize = 32;
+
 /// The lengths written, or the number of the refusal and the length needed.
 type Answer = Result<(usize, usize), (u64, usize)>;
 
@@ -55,13 +58,17 @@ impl Call {
     }
 
     /// Calls both sides with an output of `length` bytes, compares answers
-    /// and outputs, and checks that what isn't written is kept.
+    /// and outputs, and checks that what isn't written is kept, also on both
+    /// sides of the output.
     fn compare_at(self, random: &mut Random, a: &[u8], b: &[u8], length: usize) -> Answer {
         let start = random.byte();
-        let before: Vec<u8> = (0..length).map(|i| start.wrapping_add(i as u8)).collect();
+        let before: Vec<u8> = (0..length + 2 * GUARD)
+            .map(|i| start.wrapping_add(i as u8))
+            .collect();
         let (mut out, mut expected) = (before.clone(), before.clone());
-        let answer = self.by_archive(a, b, &mut out);
-        let right = self.by_reference(a, b, &mut expected);
+        let inside = GUARD..GUARD + length;
+        let answer = self.by_archive(a, b, &mut out[inside.clone()]);
+        let right = self.by_reference(a, b, &mut expected[inside]);
         let input = || format!("{self:?}: {} {}, output {length}", show(a), show(b));
         assert_eq!(answer, right, "{}", input());
         assert!(
@@ -72,8 +79,21 @@ impl Call {
             show(&expected)
         );
         let written = answer.map_or(0, |(first, second)| first + second);
-        assert_eq!(out[written..], before[written..], "{}", input());
+        let kept = GUARD + written;
+        assert_eq!(out[..GUARD], before[..GUARD], "{}", input());
+        assert_eq!(out[kept..], before[kept..], "{}", input());
         answer
+    }
+
+    /// The length of an output that always suffices.
+    fn suffices(self) -> usize {
+        match self {
+            Call::Reference => 511,
+            Call::Target | Call::SourceOf => 255,
+            Call::Compose => 1027,
+            Call::Resolve => 510,
+            Call::RelationshipsPart => 266,
+        }
     }
 
     /// Compares with outputs of all kinds of lengths. Answers the number of
@@ -89,7 +109,7 @@ impl Call {
             }
             Ok(_) => panic!("{self:?} writes nothing: {} {}", show(a), show(b)),
         };
-        assert!(needed > 0);
+        assert!((1..=self.suffices()).contains(&needed));
         let short = self.compare_at(random, a, b, needed - 1);
         assert_eq!(short, Err((3, needed)));
         let exact = self.compare_at(random, a, b, needed);
@@ -771,6 +791,12 @@ fn limits() {
         Ok(255)
     );
     assert_eq!(Call::Target.text("/abcd/e", &target), Err(9));
+    let host = format!("a://{}", "h".repeat(251));
+    let reference = "g".repeat(255);
+    assert_eq!(
+        Call::Reference.text(&host, &reference),
+        Ok(format!("{host}/{reference}")) // 511 bytes
+    );
     let longest = format!("a:{}", "@".repeat(253));
     let name = format!("/{}", "n".repeat(254));
     assert_eq!(

@@ -1,5 +1,7 @@
-//! Compares the ledger with its definitions, written down as plain lists that
-//! are searched anew for every call.
+//! Compares what the ledger does with items, Defaults and Overrides, given
+//! well-formed fields, with the definitions written down as plain lists that
+//! are searched anew for every call. Relationships and the XML streams are not
+//! tried here; names are read and compared by the crate itself on both sides.
 
 use reference::ledger::{Ledger, Totals};
 use reference::names::{
