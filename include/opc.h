@@ -16,6 +16,9 @@
  * past the written bytes as it was; if the output is too short it writes nothing,
  * answers OPC_OUTPUT_TOO_SHORT and the length that is needed.
  *
+ * REFUSALS. Each call names the numbers by which it can be refused, in the order
+ * in which they are tried: the first that applies is answered.
+ *
  * Two calls on one package must not run at once unless both only read it.
  */
 #ifndef OPC_H
@@ -47,7 +50,8 @@ enum opc_number {
     /* earlier calls */
     OPC_TAKEN = 10,                /* the name or the key is held already */
     OPC_DERIVABLE = 11,            /* the prefix is derivable from a held one, or a held one from it */
-    OPC_PIECES_DISAGREE = 12,      /* whole beside piece, second last piece, a number above the last */
+    OPC_PIECES_DISAGREE = 12,      /* a whole item beside a piece, a second last piece, a number above that of the last piece,
+                                      a last piece whose number is below a held one */
     OPC_NOT_HELD = 13,             /* not held, no part yet, or no such position */
     OPC_NO_MEDIA_TYPE = 14,
     OPC_FULL = 15,                 /* a set is full, or the charge would pass the capacity */
@@ -55,7 +59,7 @@ enum opc_number {
     OPC_UNREADABLE_LINE = 16
 };
 
-/* Of the three values the first `count` are the call's; the others are 0. */
+/* Of the three values the first `count` are the call's; the others are 0. On a refusal all are 0, but for the length of number 3. */
 typedef struct opc_reply {
     uint64_t number; /* 0, or the number of the refusal */
     uint64_t count;
@@ -76,7 +80,7 @@ typedef struct opc_reply {
 #define OPC_INTERNAL 0
 #define OPC_EXTERNAL 1
 
-/* JUDGEMENTS on any bytes. */
+/* JUDGEMENTS on any bytes. None is refused. */
 bool opc_is_part_name(const uint8_t *name, size_t name_length);
 bool opc_is_reserved(const uint8_t *name, size_t name_length); /* of a part name */
 bool opc_is_media_type(const uint8_t *text, size_t text_length);
@@ -95,74 +99,97 @@ uint8_t opc_compare_folded(const uint8_t *a, size_t a_length, const uint8_t *b, 
 /* Where a part name's extension begins, 0 if it has none. */
 size_t opc_extension_at(const uint8_t *name, size_t name_length);
 
-/* An item name taken apart: the prefix's length; 0 for a whole item, 1 for a piece, 2 for the last piece; the piece's number. */
+/* An item name taken apart: the prefix's length; 0 for a whole item, 1 for a piece, 2 for the last piece; the piece's number.
+   Refusals: 6, 4. */
 opc_reply opc_take_apart(const uint8_t *name, size_t name_length);
 
 /* IRIS. Each writes one text to `out` and answers its length. */
 
-/* A reference against a package IRI, RFC 3986 5.2. */
+/* A reference against a package IRI, RFC 3986 5.2. 511 bytes suffice.
+   Refusals: 9 for either IRI; 3. */
 opc_reply opc_resolve_reference(const uint8_t *base, size_t base_length, const uint8_t *reference, size_t reference_length,
                                 uint8_t *out, size_t out_length);
 
-/* The part name that an internal target leads to from a source, `/` or a part name. */
+/* The part name that an internal target leads to from a source, `/` or a part name. 255 bytes suffice.
+   Refusals: 4, 5 for the source; 9 for the target, 5 if it leads to a reserved name; 3. */
 opc_reply opc_resolve_target(const uint8_t *source, size_t source_length, const uint8_t *target, size_t target_length,
                              uint8_t *out, size_t out_length);
 
-/* The pack IRI of a part, or of the package if the name is `/`. 1,027 bytes suffice. */
+/* The pack IRI of a part, or of the package if the name is `/`. 1,027 bytes suffice.
+   Refusals: 9 for the package IRI `base`; 4 for the name; 3. */
 opc_reply opc_compose_pack_iri(const uint8_t *base, size_t base_length, const uint8_t *name, size_t name_length,
                                uint8_t *out, size_t out_length);
 
-/* The package IRI of a pack IRI, directly followed by the part name, if there is one: both lengths. 510 bytes suffice. */
+/* The package IRI of a pack IRI, directly followed by the part name, if there is one: both lengths. 510 bytes suffice.
+   Refusals: 9; 3, with the sum of both lengths. */
 opc_reply opc_resolve_pack_iri(const uint8_t *iri, size_t iri_length, uint8_t *out, size_t out_length);
 
-/* The name of a source's Relationships part, and back. 266 bytes suffice. */
+/* The name of a source's Relationships part. 266 bytes suffice.
+   Refusals: 4, 5 for the source; 3. */
 opc_reply opc_relationships_part(const uint8_t *source, size_t source_length, uint8_t *out, size_t out_length);
+
+/* Back: the source that has this Relationships part. 255 bytes suffice.
+   Refusals: 4 if no source has; 3. */
 opc_reply opc_source_of_relationships_part(const uint8_t *name, size_t name_length, uint8_t *out, size_t out_length);
 
 /*
  * PACKAGES. `package` is the whole lent buffer, at least `capacity` + OPC_OVERHEAD
  * bytes, in every call; its bytes may be stored, mapped or moved between calls.
+ * Every call but opc_start and opc_view_item is refused by 1 before all else if
+ * the buffer is no package; the lists of refusals leave that out.
  */
 
-/* Makes an empty package of the buffer, whatever it held. */
+/* Makes an empty package of the buffer, whatever it held.
+   Refusals: 2. */
 opc_reply opc_start(uint8_t *package, size_t package_length, uint64_t capacity);
 
-/* Holds a whole item (`/t3`) or a piece (`/t3/[0].piece`); drops it. */
+/* Holds a whole item (`/t3`) or a piece (`/t3/[0].piece`); drops it.
+   Refusals: 6, 4, 5 for the name; to put 10, 12, 11, 15; to drop 13. */
 opc_reply opc_put_item(uint8_t *package, size_t package_length, const uint8_t *name, size_t name_length,
                        const uint8_t *bytes, size_t bytes_length);
 opc_reply opc_drop_item(uint8_t *package, size_t package_length, const uint8_t *name, size_t name_length);
 
-/* The length of an item. */
+/* The length of an item.
+   Refusals: 6, 4 for the name; 13. */
 opc_reply opc_find_item(const uint8_t *package, size_t package_length, const uint8_t *name, size_t name_length);
 
-/* Where an item's bytes begin in the package, and their number. It is never refused: of an item that is not held there are 0. */
+/* Where an item's bytes begin in the package, and their number. The place is valid until the next call that may change the package:
+   a put may move the bytes of every item. It is never refused: of an item that is not held there are 0 bytes. */
 opc_reply opc_view_item(const uint8_t *package, size_t package_length, const uint8_t *name, size_t name_length);
 
-/* Copies a part's content from `offset` on, as much as `out` takes: how many bytes these are. */
+/* Copies a part's content from `offset` on, as much as `out` takes: how many bytes these are.
+   Refusals: 4; 13 if no items make that part, or not yet. An output of any length will do. */
 opc_reply opc_read_part(const uint8_t *package, size_t package_length, const uint8_t *name, size_t name_length, uint64_t offset,
                         uint8_t *out, size_t out_length);
 
-/* Copies the name of the part at a position, from 0, in folded order: its length. 255 bytes suffice. */
+/* Copies the name of the part at a position, from 0, in folded order: its length. 255 bytes suffice.
+   Refusals: 13; 3. */
 opc_reply opc_part_at(const uint8_t *package, size_t package_length, uint64_t position, uint8_t *out, size_t out_length);
 
-/* How many items are held, how many parts they make, and the charge. */
+/* How many items are held, how many parts they make, and the charge.
+   Refusals: no others. */
 opc_reply opc_totals(const uint8_t *package, size_t package_length);
 
-/* The media type of an extension. */
+/* The media type of an extension.
+   Refusals: 7 for either field; to put 10, 15; to drop 13. */
 opc_reply opc_put_default(uint8_t *package, size_t package_length, const uint8_t *extension, size_t extension_length,
                           const uint8_t *media_type, size_t media_type_length);
 opc_reply opc_drop_default(uint8_t *package, size_t package_length, const uint8_t *extension, size_t extension_length);
 
-/* The media type of one part name, which goes before that of its extension. */
+/* The media type of one part name, which goes before that of its extension.
+   Refusals: 4 for the name; to put 7, 10, 15; to drop 13. */
 opc_reply opc_put_override(uint8_t *package, size_t package_length, const uint8_t *name, size_t name_length,
                            const uint8_t *media_type, size_t media_type_length);
 opc_reply opc_drop_override(uint8_t *package, size_t package_length, const uint8_t *name, size_t name_length);
 
-/* Copies the media type of a part: its length. 127 bytes suffice. */
+/* Copies the media type of a part: its length. 127 bytes suffice.
+   Refusals: 4; 13 if no items make that part, or not yet; 14; 3. */
 opc_reply opc_media_type(const uint8_t *package, size_t package_length, const uint8_t *name, size_t name_length,
                          uint8_t *out, size_t out_length);
 
-/* A relationship from a source, `/` or a part name; `kind` is its type. A mode other than OPC_INTERNAL and OPC_EXTERNAL is refused. */
+/* A relationship from a source, `/` or a part name; `kind` is its type. A mode other than OPC_INTERNAL and OPC_EXTERNAL is refused.
+   Refusals: 4, 5 for the source; 8 for the id; to put 8 for the type or the mode, 9 for the target, 5 if it leads to a reserved name,
+   10, 15; to drop 13. */
 opc_reply opc_put_relationship(uint8_t *package, size_t package_length, const uint8_t *source, size_t source_length,
                                const uint8_t *id, size_t id_length, const uint8_t *kind, size_t kind_length, uint64_t mode,
                                const uint8_t *target, size_t target_length);
@@ -171,15 +198,19 @@ opc_reply opc_drop_relationship(uint8_t *package, size_t package_length, const u
 
 /* LINKS AND STREAMS */
 
-/* Writes the IRI that a relationship leads to from the package IRI `base`: its length, its mode, and 1 if the part is held, else 0. */
+/* Writes the IRI that a relationship leads to from the package IRI `base`: its length, its mode, and 1 if the part is held, else 0.
+   1,027 bytes suffice.
+   Refusals: 4, 5 for the source; 8 for the id; 9 for `base`; 13; 3. */
 opc_reply opc_resolve_relationship(const uint8_t *package, size_t package_length, const uint8_t *source, size_t source_length,
                                    const uint8_t *id, size_t id_length, const uint8_t *base, size_t base_length,
                                    uint8_t *out, size_t out_length);
 
-/* Writes the Defaults and Overrides as XML: its length. */
+/* Writes the Defaults and Overrides as XML: its length.
+   Refusals: 3. */
 opc_reply opc_write_types(const uint8_t *package, size_t package_length, uint8_t *out, size_t out_length);
 
-/* Writes the relationships of a source as XML: its length. */
+/* Writes the relationships of a source as XML: its length.
+   Refusals: 4, 5 for the source; 3. */
 opc_reply opc_write_relationships(const uint8_t *package, size_t package_length, const uint8_t *source, size_t source_length,
                                   uint8_t *out, size_t out_length);
 

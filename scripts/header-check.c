@@ -1,4 +1,4 @@
-/* A package from C, by include/opc.h. scripts/header-check compiles and runs it. */
+/* Every function of include/opc.h called from C, its answers checked. scripts/header-check compiles and runs it. */
 #include <stdio.h>
 #include <string.h>
 
@@ -22,27 +22,65 @@ static int is(opc_reply reply, uint64_t number, uint64_t count, uint64_t first, 
            reply.third == third;
 }
 
+/* Whether a call that answers one length wrote just this text. */
+static int wrote(opc_reply reply, const uint8_t *out, const char *text)
+{
+    size_t length = strlen(text);
+    return is(reply, OPC_ACCEPTED, 1, length, 0, 0) && memcmp(out, text, length) == 0;
+}
+
 int main(void)
 {
-    uint8_t out[64];
+    uint8_t out[1027];
     opc_reply reply;
 
     CHECK(sizeof(opc_reply) == 40);
+
+    /* judgements */
     CHECK(opc_is_part_name(TEXT("/tiles/t3.tiff")));
     CHECK(!opc_is_part_name(TEXT("/tiles/")));
+    CHECK(opc_is_reserved(TEXT("/x/_RELS/y.RELS")));
+    CHECK(!opc_is_reserved(TEXT("/_rels/x.rels.xml")));
+    CHECK(opc_is_media_type(TEXT("image/tiff")));
+    CHECK(!opc_is_media_type(TEXT("image")));
+    CHECK(opc_is_extension(TEXT("tiff")));
+    CHECK(!opc_is_extension(TEXT("a.b")));
+    CHECK(opc_is_id(TEXT("r1")));
+    CHECK(!opc_is_id(TEXT("1r")));
+    CHECK(opc_is_iri(TEXT("../t3#left")));
+    CHECK(!opc_is_iri(TEXT("1a:b")));
+    CHECK(opc_is_package_iri(TEXT("http://h/p.opc")));
+    CHECK(!opc_is_package_iri(TEXT("p.opc")));
     CHECK(opc_is_equivalent(TEXT("/Tiles"), TEXT("/tIles")));
+    CHECK(!opc_is_equivalent(TEXT("/tiles"), TEXT("/tile")));
+    CHECK(opc_is_derivable(TEXT("/A/b"), TEXT("/a")));
+    CHECK(!opc_is_derivable(TEXT("/a"), TEXT("/A/b")));
     CHECK(opc_compare_folded(TEXT("/a"), TEXT("/B")) == 0);
+    CHECK(opc_compare_folded(TEXT("/b"), TEXT("/B")) == 1);
+    CHECK(opc_compare_folded(TEXT("/b"), TEXT("/A")) == 2);
     CHECK(opc_extension_at(TEXT("/t3.tiff")) == 4);
     CHECK(is(opc_take_apart(TEXT("/t3/[12].last.piece")), OPC_ACCEPTED, 3, 3, 2, 12));
     CHECK(opc_take_apart(TEXT("/t3/[01].piece")).number == OPC_BAD_SUFFIX);
 
+    /* IRIs */
+    CHECK(wrote(opc_resolve_reference(TEXT("http://h/p.opc"), TEXT("b.xml"), out, sizeof out), out, "http://h/b.xml"));
+    CHECK(wrote(opc_resolve_target(TEXT("/a/b/c"), TEXT("../../g"), out, sizeof out), out, "/g"));
+    CHECK(wrote(opc_compose_pack_iri(TEXT("http://h/p.opc"), TEXT("/t3"), out, sizeof out), out, "pack://http%3A,,h,p.opc/t3"));
+    CHECK(is(opc_resolve_pack_iri(TEXT("pack://http%3A,,h,p.opc/t3"), out, sizeof out), OPC_ACCEPTED, 2, 14, 3, 0));
+    CHECK(memcmp(out, "http://h/p.opc/t3", 17) == 0);
+    CHECK(wrote(opc_relationships_part(TEXT("/foo/bar.xml"), out, sizeof out), out, "/foo/_rels/bar.xml.rels"));
+    CHECK(wrote(opc_source_of_relationships_part(TEXT("/_RELS/.rels"), out, sizeof out), out, "/"));
+
+    /* a package: its items */
     CHECK(opc_totals(package, sizeof package).number == OPC_NOT_A_PACKAGE);
     CHECK(opc_start(package, sizeof package, CAPACITY + 1).number == OPC_BAD_START);
     CHECK(is(opc_start(package, sizeof package, CAPACITY), OPC_ACCEPTED, 1, 0, 0, 0));
-
     CHECK(is(opc_put_item(package, sizeof package, TEXT("/t3.tif/[1].last.piece"), TEXT("world")), 0, 1, 0, 0, 0));
     CHECK(is(opc_put_item(package, sizeof package, TEXT("/T3.tif/[0].piece"), TEXT("hello ")), 0, 1, 0, 0, 0));
     CHECK(opc_put_item(package, sizeof package, TEXT("/t3.TIF/a"), TEXT("")).number == OPC_DERIVABLE);
+    CHECK(is(opc_put_item(package, sizeof package, TEXT("/t4"), TEXT("")), 0, 1, 0, 0, 0));
+    CHECK(is(opc_drop_item(package, sizeof package, TEXT("/T4")), 0, 1, 0, 0, 0));
+    CHECK(is(opc_drop_item(package, sizeof package, TEXT("/t4")), OPC_NOT_HELD, 1, 0, 0, 0));
     CHECK(is(opc_find_item(package, sizeof package, TEXT("/t3.tif/[0].PIECE")), 0, 1, 6, 0, 0));
     CHECK(opc_find_item(package, sizeof package, TEXT("/t3.tif")).number == OPC_NOT_HELD);
 
@@ -50,26 +88,51 @@ int main(void)
     CHECK(reply.count == 2 && reply.second == 6 && memcmp(package + reply.first, "hello ", 6) == 0);
 
     memset(out, '.', sizeof out);
-    CHECK(is(opc_read_part(package, sizeof package, TEXT("/t3.tif"), 2, out, sizeof out), 0, 1, 9, 0, 0));
-    CHECK(memcmp(out, "llo world.", 10) == 0);
+    CHECK(wrote(opc_read_part(package, sizeof package, TEXT("/t3.tif"), 2, out, sizeof out), out, "llo world"));
+    CHECK(out[9] == '.');
 
     CHECK(is(opc_part_at(package, sizeof package, 0, out, 3), OPC_OUTPUT_TOO_SHORT, 1, 7, 0, 0));
-    CHECK(is(opc_part_at(package, sizeof package, 0, out, sizeof out), 0, 1, 7, 0, 0));
-    CHECK(memcmp(out, "/T3.tif", 7) == 0);
+    CHECK(wrote(opc_part_at(package, sizeof package, 0, out, sizeof out), out, "/T3.tif"));
 
+    /* its media types */
     CHECK(opc_media_type(package, sizeof package, TEXT("/t3.tif"), out, sizeof out).number == OPC_NO_MEDIA_TYPE);
-    CHECK(opc_put_default(package, sizeof package, TEXT("TIF"), TEXT("image/tiff")).number == OPC_ACCEPTED);
-    CHECK(is(opc_media_type(package, sizeof package, TEXT("/t3.tif"), out, sizeof out), 0, 1, 10, 0, 0));
-    CHECK(memcmp(out, "image/tiff", 10) == 0);
+    CHECK(is(opc_put_default(package, sizeof package, TEXT("TIF"), TEXT("image/tiff")), 0, 1, 0, 0, 0));
+    CHECK(wrote(opc_media_type(package, sizeof package, TEXT("/t3.tif"), out, sizeof out), out, "image/tiff"));
+    CHECK(is(opc_put_override(package, sizeof package, TEXT("/T3.TIF"), TEXT("a/b")), 0, 1, 0, 0, 0));
+    CHECK(wrote(opc_media_type(package, sizeof package, TEXT("/t3.tif"), out, sizeof out), out, "a/b"));
+    CHECK(wrote(opc_write_types(package, sizeof package, out, sizeof out), out,
+                "<?xml version=\"1.0\" encoding=\"UTF-8\"?>\n"
+                "<Types xmlns=\"http://schemas.openxmlformats.org/package/2006/content-types\">\n"
+                "<Default Extension=\"TIF\" ContentType=\"image/tiff\"/>\n"
+                "<Override PartName=\"/T3.TIF\" ContentType=\"a/b\"/>\n"
+                "</Types>\n"));
+    CHECK(is(opc_drop_override(package, sizeof package, TEXT("/t3.tif")), 0, 1, 0, 0, 0));
 
+    /* its relationships */
     CHECK(opc_put_relationship(package, sizeof package, TEXT("/"), TEXT("r1"), TEXT("a:tile"), 2, TEXT("t3.tif")).number ==
           OPC_BAD_RELATIONSHIP_FIELD);
-    CHECK(opc_put_relationship(package, sizeof package, TEXT("/"), TEXT("r1"), TEXT("a:tile"), OPC_INTERNAL, TEXT("t3.tif"))
-              .number == OPC_ACCEPTED);
-    CHECK(opc_drop_relationship(package, sizeof package, TEXT("/"), TEXT("r1")).number == OPC_ACCEPTED);
+    CHECK(is(opc_put_relationship(package, sizeof package, TEXT("/"), TEXT("r1"), TEXT("a:tile"), OPC_INTERNAL, TEXT("t3.tif")),
+             0, 1, 0, 0, 0));
+    CHECK(is(opc_put_relationship(package, sizeof package, TEXT("/"), TEXT("r2"), TEXT("a:case"), OPC_EXTERNAL, TEXT("c#17")),
+             0, 1, 0, 0, 0));
+    CHECK(is(opc_resolve_relationship(package, sizeof package, TEXT("/"), TEXT("r1"), TEXT("http://h/p.opc"), out, sizeof out),
+             0, 3, 30, OPC_INTERNAL, 1));
+    CHECK(memcmp(out, "pack://http%3A,,h,p.opc/t3.tif", 30) == 0);
+    CHECK(is(opc_resolve_relationship(package, sizeof package, TEXT("/"), TEXT("r2"), TEXT("http://h/p.opc"), out, sizeof out),
+             0, 3, 13, OPC_EXTERNAL, 0));
+    CHECK(memcmp(out, "http://h/c#17", 13) == 0);
+    CHECK(is(opc_drop_relationship(package, sizeof package, TEXT("/"), TEXT("r2")), 0, 1, 0, 0, 0));
+    CHECK(wrote(opc_write_relationships(package, sizeof package, TEXT("/"), out, sizeof out), out,
+                "<?xml version=\"1.0\" encoding=\"UTF-8\"?>\n"
+                "<Relationships xmlns=\"http://schemas.openxmlformats.org/package/2006/relationships\">\n"
+                "<Relationship Id=\"r1\" Type=\"a:tile\" Target=\"t3.tif\"/>\n"
+                "</Relationships>\n"));
+    CHECK(is(opc_drop_relationship(package, sizeof package, TEXT("/"), TEXT("r1")), 0, 1, 0, 0, 0));
 
     /* 22 + 5 and 17 + 6 for the pieces, 3 + 10 for the Default */
     CHECK(is(opc_totals(package, sizeof package), 0, 3, 2, 1, 63));
+    CHECK(is(opc_drop_default(package, sizeof package, TEXT("tif")), 0, 1, 0, 0, 0));
+    CHECK(is(opc_totals(package, sizeof package), 0, 3, 2, 1, 50));
 
     puts("ok");
     return 0;
