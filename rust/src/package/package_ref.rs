@@ -85,10 +85,8 @@ impl<'a> PackageRef<'a> {
                 name.len(),
             )
         };
-        match reply.values() {
-            Ok([offset, length]) => &self.buffer[offset..][..length],
-            Err(_) => &[],
-        }
+        let [offset, length] = reply.values().expect("a view is never refused");
+        &self.buffer[offset..][..length]
     }
 
     /// Copies the content of a part from `offset` on, as much as `out` takes,
