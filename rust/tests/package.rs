@@ -603,6 +603,8 @@ impl List {
         match self.style {
             Style::Tight if room < 2000 && random.once_in(3) => exact(random),
             Style::Tiles if room < 8000 && random.once_in(3) => exact(random),
+            // a copy goes by blocks of 4 KiB: some have more than two
+            Style::Tiles if random.once_in(4) => random.below(10_000),
             Style::Tiles => random.below(4200),
             Style::Full => random.below(4),
             _ => random.below(24),
