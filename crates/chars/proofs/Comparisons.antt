@@ -11,7 +11,8 @@ use lib.ListN.{length, drop, getD, drop-of-length-le}
 use lib.Seq.{drop-cons}
 use borrow.Author.Tests.{lt-ltb, le-ltb, ne-eqb}
 use Rattle.chars.specs.Lists.{same}
-use Rattle.chars.specs.Folding.{lower, byteOrder, equivalent, order}
+use Rattle.chars.specs.Folding.{lower, equivalent, order}
+use Rattle.chars.specs.Comparing.{byteOrder}
 use Rattle.chars.specs.declared.folding.Order.the-variants.{Less, Equal, Greater}
 
 pub lengths-differ : (a b : List ℕ) → (length a ≡ length b → ⊥) → equivalent a b ≡ false

@@ -10,7 +10,8 @@ use lib.ListN.{length, take, drop, getD}
 use lib.Seq.{drop-cons, take-add}
 use borrow.Author.Tests.{le-ltb, eq-eqb}
 use Rattle.chars.specs.Lists.{same}
-use Rattle.chars.specs.Folding.{lower, fold, inCase, sameEight, equivalent, order}
+use Rattle.chars.specs.Folding.{lower, fold, equivalent, order}
+use Rattle.chars.specs.Comparing.{inCase, sameEight}
 use Rattle.chars.proofs.Equivalence.{same-eq, same-refl}
 
 module _ (s : List ℕ) where

@@ -1,11 +1,11 @@
 -- Folding, and what is compared by it.
 -- Assumes nothing.
 use Prim.Native.Nat.{ℕ, _+_, _-_}
-use mathlib.Core.Bool.{Bool, true, false, _&&_, cond}
+use mathlib.Core.Bool.{Bool, _&&_, cond}
 use mathlib.Core.List.{List, [], _∷_, _++_, map}
 use Prim.Native.Char.{code}
 use lib.Dec.{leb, ltb}
-use lib.ListN.{length, take, drop}
+use lib.ListN.{length, drop}
 use Rattle.chars.specs.Bytes.{slash, within}
 use Rattle.chars.specs.Lists.{same, begins}
 use Rattle.chars.specs.declared.folding.Order.{Order}
@@ -18,11 +18,6 @@ lower b = cond (within (code "A") (code "Z") b) (b + 32) b
 abbrev pub fold : List ℕ → List ℕ
 fold s = map lower s
 
--- a byte folded, or as it stands
-abbrev pub inCase : Bool → ℕ → ℕ
-inCase true = lower
-inCase false = λ b. b
-
 -- "Two names are equivalent if their foldings are equal."
 unfoldable pub equivalent : List ℕ → List ℕ → Bool
 equivalent a b = same (fold a) (fold b)
@@ -30,14 +25,6 @@ equivalent a b = same (fold a) (fold b)
 -- "A is derivable from B if A's folding is B's, then a slash, then more."
 unfoldable pub derivable : List ℕ → List ℕ → Bool
 derivable a b = begins (fold b ++ slash ∷ []) (fold a) && ltb (length b + 1) (length a)
-
--- eight bytes of two texts, from index i on, are the same, folded or as they stand
-unfoldable pub sameEight : Bool → List ℕ → List ℕ → ℕ → Bool
-sameEight c a b i = same (map (inCase c) (take 8 (drop i a))) (map (inCase c) (take 8 (drop i b)))
-
--- how two bytes stand to each other: 0 less, 1 equal, 2 greater
-unfoldable pub byteOrder : ℕ → ℕ → ℕ
-byteOrder x y = cond (ltb x y) 0 (cond (ltb y x) 2 1)
 
 -- "byte by byte; a proper prefix comes first"
 unfoldable pub order : List ℕ → List ℕ → Order

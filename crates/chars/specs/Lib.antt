@@ -2,4 +2,5 @@ pub mod Bytes
 pub mod Lists
 pub mod Characters
 pub mod Folding
+pub mod Comparing
 pub mod Classes

@@ -4,7 +4,8 @@ use crate::starts::same_start;
 ghost use mathlib.Core.Path.{_≡_};
 ghost use mathlib.Core.List.{map};
 ghost use lib.Dec.{eqb};
-ghost use Rattle.chars.specs.Folding.{lower, inCase, byteOrder, equivalent, derivable, order, foldedOrder, endsIn};
+ghost use Rattle.chars.specs.Folding.{lower, equivalent, derivable, order, foldedOrder, endsIn};
+ghost use Rattle.chars.specs.Comparing.{inCase, byteOrder};
 
 pub enum Order {
     Less,

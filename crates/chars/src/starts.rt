@@ -6,7 +6,7 @@ ghost use mathlib.Core.Bool.{true, false};
 ghost use mathlib.Core.List.{map};
 ghost use Prim.Native.Nat.{_+_, _≤_};
 ghost use lib.ListN.{length, take};
-ghost use Rattle.chars.specs.Folding.{inCase, sameEight};
+ghost use Rattle.chars.specs.Comparing.{inCase, sameEight};
 
 fn is_same_eight(a: &[u8], b: &[u8], i: usize) -> bool
     requires { ⌜ (i + 8 ≤ length (now a)) × (i + 8 ≤ length (now b)) ⌝ }

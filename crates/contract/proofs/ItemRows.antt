@@ -14,7 +14,7 @@ use Rattle.chars.specs.Folding.{fold, order}
 use Rattle.model.specs.Sets.{Bytes, keyOrder, thenBy, before}
 use Rattle.model.specs.Places.{firstWhere, bound}
 use Rattle.model.specs.Fields.{prefixOf, suffixOf}
-use Rattle.model.specs.Package.{noItem, Item, Default, State, keyOfItem, keyOfDefault}
+use Rattle.model.specs.Package.{noItem, Default, State, keyOfItem, keyOfDefault}
 use Rattle.model.proofs.Lists.{each-at}
 use Rattle.store.specs.Layout.{countOf}
 use Rattle.store.specs.Rows.{Row, noRow, rowAt, tagAt, fieldOf}

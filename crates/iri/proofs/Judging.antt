@@ -18,7 +18,8 @@ use Rattle.chars.proofs.Equivalence.{same-eq}
 use Rattle.names.specs.Iris.{iri, colonFirst, scheme, schemeEnd, packageIri}
 use Rattle.names.specs.Names.{partName, segment, reserved}
 use Rattle.iri.specs.Answers.{passing, Outcome, No, Text}
-use Rattle.iri.specs.Components.{SplitAt, schemeOf, authorityOf, queryOf, fragmentOf}
+use Rattle.iri.specs.Components.{schemeOf, authorityOf, queryOf, fragmentOf}
+use Rattle.iri.specs.Scratch.{SplitAt}
 use Rattle.iri.specs.Pack.{partOrRoot}
 use Rattle.iri.specs.Scratch.{Reached, NamedAs}
 use Rattle.iri.specs.Targets.{sourceRefusal, internal, internalRefusal, resolvePath, targetRefusal, targetRefusalFrom, resolveTarget}

@@ -14,7 +14,8 @@ use Rattle.chars.specs.Folding.{equivalent, order}
 use Rattle.chars.specs.Lists.{none}
 use Rattle.chars.proofs.Searches.{take-rest}
 use Rattle.names.proofs.Reserved.{drop-take}
-use Rattle.iri.specs.Components.{SplitAt, authorityOf, pathOf, authorityLength, afterScheme}
+use Rattle.iri.specs.Components.{authorityOf, pathOf, authorityLength, afterScheme}
+use Rattle.iri.specs.Scratch.{SplitAt}
 use Rattle.iri.specs.Pack.{packForm, partOrRoot, located, Not, resolvePack, Location, ofResolved, Found}
 use Rattle.iri.specs.Scratch.{Placed, PlacedAs}
 use Rattle.iri.specs.declared.pack.Place.{Place}

@@ -16,7 +16,8 @@ use Rattle.chars.proofs.Bools.{and-false}
 use Rattle.chars.proofs.Searches.{take-rest, first-le, index-le}
 use Rattle.chars.proofs.UnitLengths.{passes-lt}
 use Rattle.names.specs.Iris.{schemeEnd, colonFirst}
-use Rattle.iri.specs.Components.{schemeLength, authorityLength, afterScheme, afterAuthority, pathLength, afterPath, SplitAt, schemeOf, authorityOf, pathOf, queryOf, fragmentOf, ComponentsReturn, recompose}
+use Rattle.iri.specs.Components.{schemeLength, authorityLength, afterScheme, afterAuthority, pathLength, afterPath, schemeOf, authorityOf, pathOf, queryOf, fragmentOf, ComponentsReturn, recompose}
+use Rattle.iri.specs.Scratch.{SplitAt}
 
 -- a byte that is not 0 lies within s
 pub byte-lt : (s : List ℕ) (k x b : ℕ) → eqb 0 b ≡ false → x ≡ getD s k 0 → x ≡ b → k < length s

@@ -4,13 +4,13 @@
 -- the query with its question mark, the fragment with its number sign. An undefined component is the empty list; a defined one, even an
 -- empty one, has its delimiter. So the five, one after the other, are the IRI (5.3).
 -- Assumes nothing.
-use Prim.Native.Nat.{ℕ, _+_, _-_, _≤_}
+use Prim.Native.Nat.{ℕ, _+_}
 use mathlib.Core.Path.{_≡_}
 use mathlib.Core.Bool.{Bool, not, _&&_, cond}
 use mathlib.Core.List.{List, _++_}
 use Prim.Native.Char.{code}
 use lib.Dec.{eqb}
-use lib.ListN.{length, take, drop, getD}
+use lib.ListN.{take, drop, getD}
 use Rattle.chars.specs.Bytes.{slash, numberSign, member}
 use Rattle.chars.specs.Lists.{none, firstOf, indexOf}
 use Rattle.chars.specs.declared.search.Alphabet.the-variants.{AuthorityEnd, PathEnd}
@@ -77,18 +77,6 @@ fragmentOf s = drop (indexOf numberSign (afterPath s)) (afterPath s)
 
 abbrev pub components : List ℕ → Components
 components s = record { scheme = schemeOf s; authority = authorityOf s; path = pathOf s; query = queryOf s; fragment = fragmentOf s }
-
--- the scheme ends at a, the authority at b, the path at p, the query at q
-pub record SplitAt (s : List ℕ) (a b p q : ℕ) : Type 0 where
-  pub scheme : take a s ≡ schemeOf s
-  pub authority : take (b - a) (drop a s) ≡ authorityOf s
-  pub path : take (p - b) (drop b s) ≡ pathOf s
-  pub query : take (q - p) (drop p s) ≡ queryOf s
-  pub fragment : drop q s ≡ fragmentOf s
-  pub a-le : a ≤ b
-  pub b-le : b ≤ p
-  pub p-le : p ≤ q
-  pub q-le : q ≤ length s
 
 -- RFC 3986, 5.3
 unfoldable pub recompose : Components → List ℕ

@@ -7,7 +7,7 @@ use mathlib.Core.List.{List, _++_}
 use lib.ListN.{length, take, drop}
 use Rattle.chars.specs.Bytes.{ascii}
 use Rattle.chars.specs.Lists.{same}
-use Rattle.iri.specs.Components.{SplitAt, authorityOf, pathOf}
+use Rattle.iri.specs.Components.{schemeOf, authorityOf, pathOf, queryOf, fragmentOf}
 use Rattle.iri.specs.References.{Rule, Skip, Root, Up, UpRoot, Finish, Copy, rulePick, firstSegment, removeDotSegments, relativePath, target}
 use Rattle.iri.specs.Targets.{resolvePath, internalRefusal}
 use Rattle.iri.specs.Pack.{packForm, packageOf}
@@ -18,6 +18,18 @@ use Rattle.iri.specs.declared.pack.Place.the-variants as place
 use Rattle.iri.specs.declared.targets.Name.{Name}
 use Rattle.iri.specs.declared.targets.Name.the-variants as name
 use Rattle.iri.specs.declared.split.Parts.{Parts}
+
+-- the scheme ends at a, the authority at b, the path at p, the query at q
+pub record SplitAt (s : List ℕ) (a b p q : ℕ) : Type 0 where
+  pub scheme : take a s ≡ schemeOf s
+  pub authority : take (b - a) (drop a s) ≡ authorityOf s
+  pub path : take (p - b) (drop b s) ≡ pathOf s
+  pub query : take (q - p) (drop p s) ≡ queryOf s
+  pub fragment : drop q s ≡ fragmentOf s
+  pub a-le : a ≤ b
+  pub b-le : b ≤ p
+  pub p-le : p ≤ q
+  pub q-le : q ≤ length s
 
 -- bytes were sent to place at of an output: the next place is counted in any case, and where they fit they stand there and nowhere else
 pub record Sent (out : List ℕ) (at : ℕ) (bytes : List ℕ) (next : ℕ) (out' : List ℕ) : Type 0 where

@@ -4,7 +4,8 @@ use chars::search::byte_at;
 use chars::search::find;
 use names::members::first_member;
 ghost use mathlib.Core.Path.{_≡_};
-ghost use Rattle.iri.specs.Components.{schemeLength, authorityLength, SplitAt};
+ghost use Rattle.iri.specs.Components.{schemeLength, authorityLength};
+ghost use Rattle.iri.specs.Scratch.{SplitAt};
 
 // Where the first four components end. The fragment goes on to the end.
 pub struct Parts {

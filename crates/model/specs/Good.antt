@@ -31,16 +31,27 @@ module _ {E : Type 0} (key : E → Key) (limit : ℕ) (fields : E → ℕ) where
     pub few : length xs ≤ limit
     pub fielded : Each (λ (x : E). fields x ≡ 0) xs
 
--- two held items
+-- TWO HELD ITEMS. "a held whole item's name is equivalent to no other held item's prefix"
+abbrev pub Alone : Item → Item → Type 0
+Alone i j = (whole (suffixOf (i .name)) || whole (suffixOf (j .name))) ≡ true → equivalent (prefixOf (i .name)) (prefixOf (j .name)) ≡ false
+
+-- "No piece number stands twice in a group"
+abbrev pub Distinct : Item → Item → Type 0
+Distinct i j = equivalent (prefixOf (i .name)) (prefixOf (j .name)) ≡ true → rank (suffixOf (i .name)) ≡ rank (suffixOf (j .name)) → ⊥
+
+-- "no held item's prefix is derivable from another's"
+abbrev pub Underived : Item → Item → Type 0
+Underived i j = (derivable (prefixOf (i .name)) (prefixOf (j .name)) ≡ false) × (derivable (prefixOf (j .name)) (prefixOf (i .name)) ≡ false)
+
+-- one last piece at most, and none above it
+abbrev pub Agreeing : Item → Item → Type 0
+Agreeing i j = equivalent (prefixOf (i .name)) (prefixOf (j .name)) ≡ true → disagrees (suffixOf (i .name)) (suffixOf (j .name)) ≡ false
+
 pub record Beside (i j : Item) : Type 0 where
-  -- "a held whole item's name is equivalent to no other held item's prefix"
-  pub alone : (whole (suffixOf (i .name)) || whole (suffixOf (j .name))) ≡ true → equivalent (prefixOf (i .name)) (prefixOf (j .name)) ≡ false
-  -- "No piece number stands twice in a group"
-  pub numbered : equivalent (prefixOf (i .name)) (prefixOf (j .name)) ≡ true → rank (suffixOf (i .name)) ≡ rank (suffixOf (j .name)) → ⊥
-  -- "no held item's prefix is derivable from another's"
-  pub underived : (derivable (prefixOf (i .name)) (prefixOf (j .name)) ≡ false) × (derivable (prefixOf (j .name)) (prefixOf (i .name)) ≡ false)
-  -- one last piece at most, and none above it
-  pub agreeing : equivalent (prefixOf (i .name)) (prefixOf (j .name)) ≡ true → disagrees (suffixOf (i .name)) (suffixOf (j .name)) ≡ false
+  pub alone : Alone i j
+  pub numbered : Distinct i j
+  pub underived : Underived i j
+  pub agreeing : Agreeing i j
 
 pub record Good (S : State) : Type 0 where
   pub capacity : S .capacity ≤ capacityLimit

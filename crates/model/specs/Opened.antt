@@ -8,7 +8,8 @@ use Rattle.names.specs.Names.{segment, partName, reserved, extensionAt}
 use Rattle.names.specs.Items.{suffix, itemName}
 use Rattle.names.specs.Types.{token, mediaType, extension, identifier}
 use Rattle.names.specs.Iris.{scheme, colonFirst, iri, packageIri}
-use Rattle.names.specs.Numbers.{value, numeral, digits, readNumber}
+use Rattle.names.specs.Numbers.{value, numeral, digits}
+use Rattle.names.specs.Reading.{readNumber}
 use Rattle.iri.specs.Components.{schemeLength, authorityLength, afterScheme, afterAuthority, afterPath, schemeOf, authorityOf, pathOf, queryOf, fragmentOf, recompose}
 use Rattle.iri.specs.References.{firstSegment, rule, turn, turns, removeDotSegments, merge, relativePath, transform, resolve}
 use Rattle.iri.specs.Targets.{sourceRefusal, internal, resolvePath, internalRefusal, targetRefusal, resolveTarget, resolveReference}

@@ -10,7 +10,8 @@ use lib.ListN.{length, drop, getD, drop-of-length-le}
 use borrow.Author.Tests.{leb-true, le-leb, lt-leb}
 use Rattle.chars.specs.Bytes.{digit}
 use Rattle.chars.specs.Lists.{none, every}
-use Rattle.names.specs.Numbers.{value, numeral, readNumber}
+use Rattle.names.specs.Numbers.{value, numeral}
+use Rattle.names.specs.Reading.{readNumber}
 use Rattle.chars.proofs.Bools.{and-left, and-right, and-false, and-assoc}
 use Rattle.chars.proofs.Searches.{drop-next}
 

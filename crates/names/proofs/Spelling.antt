@@ -17,11 +17,9 @@ use Rattle.chars.specs.Folding.{lower, equivalent}
 use Rattle.chars.proofs.Bools.{and-true}
 use Rattle.chars.proofs.Searches.{index-append, last-none, last-append, last-pos, every-append, every-imp, every-getD}
 use Rattle.chars.proofs.UnitBytes.{but, class-but}
-use Rattle.names.specs.Names.{partName}
 use Rattle.names.specs.Numbers.{value, numeral, digits, decimal4}
-use Rattle.names.specs.Items.{suffix, itemName, lastText, spelled}
-use Rattle.names.specs.declared.items.Suffix.the-variants.{Whole, Piece}
-use Rattle.names.specs.declared.items.ItemName.the-variants.{Named}
+use Rattle.names.specs.Items.{suffix, itemName, lastText, WholeItemsReturn, PiecesReturn}
+use Rattle.names.specs.declared.items.Suffix.the-variants.{Piece}
 use Rattle.names.proofs.NameBytes.{name-slash, name-but}
 
 -- DIGITS
@@ -134,9 +132,9 @@ suffix-spelled k l h =
     rw (bracket-at k l, z, take-append-seam d (lastText l), drop-append-seam d (lastText l), decimal-numeral k h, one-last l .1, one-last l .0, digits-value 4 k (omega arith))
 
 -- THE LAW
-pub piece-spelled : (p : List ℕ) (k : ℕ) (l : Bool) → partName p ≡ true → k ≤ 9999 → itemName (spelled p (Piece k l)) ≡ Named (length p) (Piece k l)
+pub pieces-return : PiecesReturn
 unfolding itemName digit
-piece-spelled p k l h b =
+pieces-return p k l h b =
     let s = p ++ slash ∷ tail k l in
     let a : afterLast slash s ≡ suc (length p) = last-append slash p (tail k l) (last-none slash (tail k l) (tail-but slash k l refl refl (no-slash l))) in
     let d : drop (suc (length p)) s ≡ tail k l = rw add-one at (drop-append-add p (slash ∷ tail k l) 1) in
@@ -145,9 +143,9 @@ piece-spelled p k l h b =
     rw z (take-append-seam p (slash ∷ tail k l)) in
     rw (a, eqb·suc-zero, d, a, d, suffix-spelled k l b, t, h)
 
-pub whole-spelled : (p : List ℕ) → partName p ≡ true → itemName (spelled p Whole) ≡ Named (length p) Whole
+pub whole-items-return : WholeItemsReturn
 unfolding itemName segmentByte unreserved letter digit hexDigit
-whole-spelled p h =
+whole-items-return p h =
     let a : 0 < afterLast slash p = last-pos slash p (omega arith) (name-slash p h) in
     let n : every (but openBracket) p ≡ true = name-but p h openBracket refl refl refl (omega arith) refl in
     let f : eqb (getD (drop (afterLast slash p) p) 0 0) openBracket ≡ false =

@@ -13,7 +13,8 @@ use Rattle.chars.specs.Lists.{indexOf, afterLast}
 use Rattle.chars.specs.Folding.{equivalent}
 use Rattle.chars.proofs.Searches.{take-rest, index-le, index-found, last-le}
 use Rattle.names.specs.Names.{partName}
-use Rattle.names.specs.Numbers.{value, numeral, readNumber}
+use Rattle.names.specs.Numbers.{value, numeral}
+use Rattle.names.specs.Reading.{readNumber}
 use Rattle.names.specs.Items.{suffixWhere, suffix, named, asPiece, itemName}
 use Rattle.names.specs.declared.items.Suffix.{Suffix}
 use Rattle.names.specs.declared.items.Suffix.the-variants.{Whole, Piece}

@@ -1,6 +1,7 @@
 -- Item names: "a part name (a whole item), or a part name, the prefix, then `/[k].piece` or `/[k].last.piece`, letters of either case".
 -- Assumes nothing.
-use Prim.Native.Nat.{ℕ, _-_}
+use Prim.Native.Nat.{ℕ, _-_, _≤_}
+use mathlib.Core.Path.{_≡_}
 use mathlib.Core.Bool.{Bool, true, false, _&&_, _||_}
 use mathlib.Core.List.{List, _++_}
 use lib.Dec.{eqb}
@@ -59,7 +60,7 @@ abbrev pub itemRefusal : ItemName → ℕ
 itemRefusal (Named n x) = 0
 itemRefusal (Refused k) = k
 
--- a prefix and a suffix put together, in lower case: taken apart, it gives the two again (`proofs/Spelling.antt`)
+-- a prefix and a suffix put together, in lower case
 abbrev pub lastText : Bool → List ℕ
 lastText true = ascii "].last.piece"
 lastText false = ascii "].piece"
@@ -67,3 +68,10 @@ lastText false = ascii "].piece"
 abbrev pub spelled : List ℕ → Suffix → List ℕ
 spelled p Whole = p
 spelled p (Piece k l) = p ++ (ascii "/[" ++ (decimal4 k ++ lastText l))
+
+-- taken apart, that gives the two again
+abbrev pub WholeItemsReturn : Type 0
+WholeItemsReturn = (p : List ℕ) → partName p ≡ true → itemName (spelled p Whole) ≡ Named (length p) Whole
+
+abbrev pub PiecesReturn : Type 0
+PiecesReturn = (p : List ℕ) (k : ℕ) (last : Bool) → partName p ≡ true → k ≤ 9999 → itemName (spelled p (Piece k last)) ≡ Named (length p) (Piece k last)

@@ -3,4 +3,5 @@ pub mod Items
 pub mod Types
 pub mod Iris
 pub mod Numbers
+pub mod Reading
 pub mod Examples

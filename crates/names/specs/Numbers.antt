@@ -26,7 +26,3 @@ digits (suc places) n = cond (ltb n 10) ((code "0" + n) ∷ []) (digits places (
 -- a number below 10,000 in decimal
 abbrev pub decimal4 : ℕ → List ℕ
 decimal4 n = digits 4 n
-
--- what a reader of digits answers: their value, going on from v, or 10,000 where it is more than 9,999 or a byte is no digit
-unfoldable pub readNumber : ℕ → List ℕ → ℕ
-readNumber v s = cond (every digit s && leb (value v s) 9999) (value v s) 10000

@@ -8,7 +8,8 @@ use chars::search::is_digit;
 ghost use mathlib.Core.Path.{_≡_};
 ghost use Rattle.chars.specs.Bytes.{ascii};
 ghost use Rattle.chars.specs.Folding.{equivalent};
-ghost use Rattle.names.specs.Numbers.{numeral, readNumber};
+ghost use Rattle.names.specs.Numbers.{numeral};
+ghost use Rattle.names.specs.Reading.{readNumber};
 ghost use Rattle.names.specs.Items.{suffix, itemName, itemRefusal};
 
 // A whole item has no suffix; a piece has its number, and whether it is marked as the last.

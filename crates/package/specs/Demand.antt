@@ -3,15 +3,14 @@
 -- Assumes nothing.
 use Prim.Native.Nat.{ℕ, _+_, _≤_, _<_}
 use mathlib.Core.Path.{_≡_}
-use mathlib.Core.Bool.{true, false, _||_}
+use mathlib.Core.Bool.{true, false}
 use mathlib.Core.List.{List, [], _∷_, map}
 use lib.ListN.{length, getD}
-use Rattle.chars.specs.Folding.{equivalent, derivable}
 use Rattle.iri.specs.Answers.{Answer, answer}
 use Rattle.model.specs.Sets.{Key, sameKey, sumOf, Pairs}
-use Rattle.model.specs.Fields.{prefixOf, suffixOf, whole}
-use Rattle.model.specs.Package.{Item, State, empty, itemLimit, defaultLimit, overrideLimit, relationshipLimit, rank, keyOfItem, keyOfDefault, keyOfOverride, keyOfRelationship, itemCharge, defaultCharge, overrideCharge, relationshipCharge, charge, parts}
+use Rattle.model.specs.Package.{State, empty, itemLimit, defaultLimit, overrideLimit, relationshipLimit, keyOfItem, keyOfDefault, keyOfOverride, keyOfRelationship, itemCharge, defaultCharge, overrideCharge, relationshipCharge, charge, parts}
 use Rattle.model.specs.Calls.{Call, Start, Looks, Totals, step, answers, after, lent}
+use Rattle.model.specs.Good.{Alone, Distinct, Underived}
 use Rattle.store.specs.Packages.{isPackage}
 use Rattle.contract.specs.Holds.{Holds}
 use Rattle.contract.specs.Ran.{Ran, Runs}
@@ -36,11 +35,11 @@ module _ {E : Type 0} (key : E → Key) (limit : ℕ) where
 -- what demand 3 says of the abstract package after every list, the first three of every two held items; and what the ledger's text says of its sets
 pub record Demanded (S : State) : Type 0 where
   -- "a held whole item's name is equivalent to no other held item's prefix"
-  pub alone : Pairs (λ (i j : Item). (whole (suffixOf (i .name)) || whole (suffixOf (j .name))) ≡ true → equivalent (prefixOf (i .name)) (prefixOf (j .name)) ≡ false) (S .items)
+  pub alone : Pairs Alone (S .items)
   -- "No piece number stands twice in a group"
-  pub numbered : Pairs (λ (i j : Item). equivalent (prefixOf (i .name)) (prefixOf (j .name)) ≡ true → rank (suffixOf (i .name)) ≡ rank (suffixOf (j .name)) → ⊥) (S .items)
+  pub numbered : Pairs Distinct (S .items)
   -- "no held item's prefix is derivable from another's"
-  pub underived : Pairs (λ (i j : Item). (derivable (prefixOf (i .name)) (prefixOf (j .name)) ≡ false) × (derivable (prefixOf (j .name)) (prefixOf (i .name)) ≡ false)) (S .items)
+  pub underived : Pairs Underived (S .items)
   -- "The charge that totals then reports is the sum over the ledger's entries."
   pub totals : (room : ℕ) → step room S (Looks Totals) .0
       ≡ answer 0

@@ -1,5 +1,5 @@
 use mathlib.Core.Path.{ap}
-use Rattle.chars.specs.Folding.{inCase}
+use Rattle.chars.specs.Comparing.{inCase}
 use Rattle.chars.proofs.Comparisons.{byte-order-same, byte-order-less, byte-order-greater, byte-order-equal}
 use borrow.Author.Needs.{needs}
 use Rattle.chars.proofs.folding.byte_order.Statement.{statement}

@@ -4,7 +4,8 @@ use Prim.Native.Nat.{_-_, _≤_}
 use native.Mathlib.Omega.{arith}
 use lib.ListN.{length, drop}
 use borrow.Author.Needs.{needs}
-use Rattle.chars.specs.Folding.{inCase, order}
+use Rattle.chars.specs.Folding.{order}
+use Rattle.chars.specs.Comparing.{inCase}
 use Rattle.chars.proofs.Comparisons.{order-longer, order-less-at, order-greater-at, order-next, order-shorter, order-same}
 use Rattle.chars.proofs.SameStarts.{order-skip}
 use Rattle.chars.proofs.folding.compare_by.Statement.{statement}

@@ -1,6 +1,6 @@
 use mathlib.Core.Path.{sym, ap, _∙_}
 use mathlib.Core.Bool.{Bool}
-use Rattle.chars.specs.Folding.{sameEight}
+use Rattle.chars.specs.Comparing.{sameEight}
 use Rattle.chars.proofs.SameStarts.{same-eight-plain}
 use borrow.Author.Needs.{needs}
 use Rattle.chars.proofs.starts.agree.Statement.{statement}

@@ -1,5 +1,6 @@
 use native.Mathlib.Omega.{arith}
-use Rattle.chars.specs.Folding.{lower, sameEight}
+use Rattle.chars.specs.Folding.{lower}
+use Rattle.chars.specs.Comparing.{sameEight}
 use Rattle.chars.proofs.SameStarts.{same-eight}
 use borrow.Author.Needs.{needs}
 use Rattle.chars.proofs.starts.is_alike_eight.Statement.{statement}

@@ -1,6 +1,6 @@
 use mathlib.Core.Path.{refl}
 use mathlib.Core.Bool.{false}
-use Rattle.chars.specs.Folding.{inCase, sameEight}
+use Rattle.chars.specs.Comparing.{inCase, sameEight}
 use Rattle.chars.proofs.SameStarts.{same-eight}
 use native.Mathlib.Omega.{arith}
 use Rattle.chars.proofs.starts.is_same_eight.Statement.{statement}

@@ -4,7 +4,7 @@ use native.Mathlib.Omega.{arith}
 use lib.ListN.{length, take}
 use borrow.Author.Needs.{needs}
 use mathlib.Core.List.{map}
-use Rattle.chars.specs.Folding.{inCase}
+use Rattle.chars.specs.Comparing.{inCase}
 use Rattle.chars.proofs.SameStarts.{same-eight-eq, take-longer}
 use Rattle.chars.proofs.starts.same_start.Statement.{statement}
 use Rattle.chars.proofs.starts.same_start.Tie as tie

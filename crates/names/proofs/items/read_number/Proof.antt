@@ -6,7 +6,7 @@ use Prim.Native.Nat.{ℕ, _-_, _≤_}
 use native.Mathlib.Omega.{arith}
 use lib.ListN.{length, getD, drop}
 use borrow.Author.Needs.{needs}
-use Rattle.names.specs.Numbers.{readNumber}
+use Rattle.names.specs.Reading.{readNumber}
 use Rattle.names.proofs.Digits.{digit-low, digit-high, read-more, read-bad, read-big, read-done}
 use Rattle.names.proofs.items.read_number.Statement.{statement}
 use Rattle.names.proofs.items.read_number.Tie as tie
