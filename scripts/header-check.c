@@ -60,7 +60,7 @@ int main(void)
     CHECK(opc_compare_folded(TEXT("/b"), TEXT("/A")) == 2);
     CHECK(opc_extension_at(TEXT("/t3.tiff")) == 4);
     CHECK(is(opc_take_apart(TEXT("/t3/[12].last.piece")), OPC_ACCEPTED, 3, 3, 2, 12));
-    CHECK(opc_take_apart(TEXT("/t3/[01].piece")).number == OPC_BAD_SUFFIX);
+    CHECK(is(opc_take_apart(TEXT("/t3/[01].piece")), OPC_BAD_SUFFIX, 3, 0, 0, 0));
 
     /* IRIs */
     CHECK(wrote(opc_resolve_reference(TEXT("http://h/p.opc"), TEXT("b.xml"), out, sizeof out), out, "http://h/b.xml"));

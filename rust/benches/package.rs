@@ -68,20 +68,53 @@ fn asked(i: usize) -> Vec<u8> {
     name
 }
 
-fn find(what: &str, count: usize) -> (f64, f64) {
-    let mut buffer = buffer();
-    let mut pair = Pair::new(&mut buffer);
+/// So many tiles, each of another length.
+fn tiles(buffer: &mut [u8], count: usize) -> Pair<'_> {
+    let mut pair = Pair::new(buffer);
     for i in 0..count {
         pair.put(&tile(i), &vec![0; i]);
     }
-    let names: Vec<Vec<u8>> = (0..count).map(asked).collect();
+    pair
+}
+
+fn find() {
+    let mut buffer = buffer();
+    let pair = tiles(&mut buffer, 200);
+    let names: Vec<Vec<u8>> = (0..200).map(asked).collect();
     support::compare(
-        what,
-        100_000 / count,
-        count,
+        "find among 200",
+        500,
+        200,
         |i| pair.package.find_item(&names[i]).expect("held"),
         |i| pair.ledger.find_item(&names[i]).expect("held"),
-    )
+    );
+}
+
+/// How the time of a find grows, the four timed in turn.
+fn find_growth() {
+    let (mut few, mut many) = (buffer(), buffer());
+    let (few, many) = (tiles(&mut few, 16), tiles(&mut many, 256));
+    let names: Vec<Vec<u8>> = (0..256).map(asked).collect();
+    let times = support::in_turn(
+        400,
+        256,
+        [
+            &mut |i| few.package.find_item(&names[i % 16]).expect("held"),
+            &mut |i| many.package.find_item(&names[i]).expect("held"),
+            &mut |i| few.ledger.find_item(&names[i % 16]).expect("held"),
+            &mut |i| many.ledger.find_item(&names[i]).expect("held"),
+        ],
+    );
+    print_growth("find", (times[0], times[2]), (times[1], times[3]));
+}
+
+/// How many times as long a call takes among many items as among few.
+fn print_growth(call: &str, few: (f64, f64), many: (f64, f64)) {
+    println!(
+        "{call}, 256 items against 16: archive {:.2} times, reference {:.2} times",
+        many.0 / few.0,
+        many.1 / few.1
+    );
 }
 
 /// The seconds of a batch's puts and of its drops, on one side.
@@ -430,7 +463,7 @@ fn walks() {
 
 /// What calls take among so many items, on both sides. The put is the last
 /// item's, so that as many are held after it.
-fn among(count: usize) -> [(f64, f64); 4] {
+fn among(count: usize) -> [(f64, f64); 3] {
     let mut buffer = buffer();
     let mut pair = Pair::new(&mut buffer);
     for i in 0..count - 1 {
@@ -468,33 +501,22 @@ fn among(count: usize) -> [(f64, f64); 4] {
         |_| package.totals().expect("a package").parts,
         |_| ledger.totals().parts as usize,
     );
-    [
-        find(&format!("find among {count}"), count),
-        changed,
-        at,
-        totals,
-    ]
+    [changed, at, totals]
 }
 
 /// How the time of a call grows with the number of items.
 fn growth() {
+    find_growth();
     let (few, many) = (among(16), among(256));
-    let calls = ["find", "put and drop", "part at", "totals"];
+    let calls = ["put and drop", "part at", "totals"];
     for (call, (few, many)) in calls.iter().zip(few.iter().zip(&many)) {
-        println!(
-            "{call}, 256 items against 16: archive {:.2} times, reference {:.2} times",
-            many.0 / few.0,
-            many.1 / few.1
-        );
+        print_growth(call, *few, *many);
     }
 }
 
 fn view() {
     let mut buffer = buffer();
-    let mut pair = Pair::new(&mut buffer);
-    for i in 0..200 {
-        pair.put(&tile(i), &vec![0; i]);
-    }
+    let pair = tiles(&mut buffer, 200);
     let names: Vec<Vec<u8>> = (0..200).map(asked).collect();
     support::compare(
         "view among 200",
@@ -507,7 +529,7 @@ fn view() {
 
 fn main() {
     support::heading();
-    find("find among 200", 200);
+    find();
     view();
     puts_and_drops(["put 4 KiB among 200", "drop from the middle"], 0);
     let longer = ["put, 4 MB longer buffer", "drop, 4 MB longer buffer"];

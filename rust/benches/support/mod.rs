@@ -34,6 +34,25 @@ pub fn median(mut times: Vec<f64>) -> f64 {
     times[times.len() / 2]
 }
 
+/// The seconds of a call of each of these, timed in turn: a slow moment of the
+/// machine hits all. All have the same cases.
+pub fn in_turn<const N: usize>(
+    passes: usize,
+    cases: usize,
+    mut calls: [&mut dyn FnMut(usize) -> usize; N],
+) -> [f64; N] {
+    let mut times = [const { Vec::new() }; N];
+    for number in 0..=ROUNDS {
+        for (call, times) in calls.iter_mut().zip(&mut times) {
+            let seconds = round(passes, cases, call);
+            if number > 0 {
+                times.push(seconds);
+            } // else it was the warm-up
+        }
+    }
+    times.map(|times| median(times) / (passes * cases) as f64)
+}
+
 /// Checks that both sides answer alike in each case, times them in turn and
 /// prints a line. Answers the archive's and the reference's seconds a call.
 pub fn compare(
