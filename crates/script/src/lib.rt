@@ -1,0 +1,3 @@
+// Scripts: calls in bytes.
+pub mod heads;
+pub mod numbers;
