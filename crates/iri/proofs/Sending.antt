@@ -12,7 +12,7 @@ use lib.ListN.{length, set, getD, take, drop, take-append-drop, length-append, l
 use lib.Seq.{paste, paste-suc, take-length, length-take-le, take-at, drop-append-add, drop-drop, take-append-seam}
 use borrow.Author.Tests.{lt-leb, le-leb}
 use Rattle.chars.proofs.Searches.{take-rest}
-use Rattle.iri.specs.Answers.{Outcome, No, Text, Answer, answer, refusing, ofWritten, written}
+use Rattle.iri.specs.Answers.{Outcome, No, Text, Answer, answer, unanswered, refusing, ofWritten, written}
 use Rattle.iri.specs.Scratch.{Sent, Fitted}
 use Rattle.iri.specs.declared.writing.Written.the-variants.{Refused, Short, Bytes}
 use Rattle.iri.proofs.DotTurns.{fits}
@@ -58,10 +58,14 @@ sent-more o o₁ o₂ b c at m n r l s = record {
       e₂ ∙ rw (k, d, append-assoc (take at o) b (c ++ drop (at + length (b ++ c)) o), append-assoc b c (drop (at + length (b ++ c)) o));
 }
 
--- a refusal by a number above 0 answers as it stands
+-- a refusal is the answer that it says where its number is not 0, and where it is an answer at all
 pub refusing-is : (k : ℕ) → (k ≡ 0 → ⊥) → (a : Answer) → refusing k a ≡ a
 refusing-is zero z a = absurd (z refl)
 refusing-is (suc k) z a = refl
+
+pub refusing-answered : (k : ℕ) (a : Answer) → (refusing k a ≡ unanswered → ⊥) → refusing k a ≡ a
+refusing-answered zero a z = absurd (z refl)
+refusing-answered (suc k) a z = refl
 
 -- what a call that writes answers
 pub answer-refused : (o : Outcome) (k : ℕ) (out : List ℕ) → (k ≡ 0 → ⊥) → o ≡ No k → ofWritten (Refused k) out ≡ written o out
