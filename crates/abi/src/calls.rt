@@ -15,27 +15,26 @@ use parts::reading::read_part;
 use parts::totals::totals;
 ghost use mathlib.Core.List.{[]};
 ghost use Rattle.model.specs.Calls.{Call, Look, Change, Print};
-ghost use Rattle.contract.specs.Ran.{Ran};
-ghost use Rattle.abi.specs.Replies.{ofReply, ViewReply};
+ghost use Rattle.abi.specs.Replies.{Replied, ViewReply};
 
 // Makes an empty package of the buffer.
 #[no_mangle]
 pub extern "C" fn opc_start(pkg: &mut [u8], capacity: u64) -> Reply
-    ensures { λ r. ⌜ Ran (Call.Start capacity) (now (pkg .entry)) (ofReply r []) (now (pkg .exit)) ⌝ }
+    ensures { λ r. ⌜ Replied (Call.Start capacity) (now (pkg .entry)) r [] (now (pkg .exit)) ⌝ }
 {
     of_did(start(pkg, capacity))
 }
 
 #[no_mangle]
 pub extern "C" fn opc_put_item(pkg: &mut [u8], name: &[u8], bytes: &[u8]) -> Reply
-    ensures { λ r. ⌜ Ran (Call.Changes (Change.PutItem (now (name .entry)) (now (bytes .entry)))) (now (pkg .entry)) (ofReply r []) (now (pkg .exit)) ⌝ }
+    ensures { λ r. ⌜ Replied (Call.Changes (Change.PutItem (now (name .entry)) (now (bytes .entry)))) (now (pkg .entry)) r [] (now (pkg .exit)) ⌝ }
 {
     of_did(put_item(pkg, name, bytes))
 }
 
 #[no_mangle]
 pub extern "C" fn opc_drop_item(pkg: &mut [u8], name: &[u8]) -> Reply
-    ensures { λ r. ⌜ Ran (Call.Changes (Change.DropItem (now (name .entry)))) (now (pkg .entry)) (ofReply r []) (now (pkg .exit)) ⌝ }
+    ensures { λ r. ⌜ Replied (Call.Changes (Change.DropItem (now (name .entry)))) (now (pkg .entry)) r [] (now (pkg .exit)) ⌝ }
 {
     of_did(drop_item(pkg, name))
 }
@@ -43,7 +42,7 @@ pub extern "C" fn opc_drop_item(pkg: &mut [u8], name: &[u8]) -> Reply
 // The length of an item.
 #[no_mangle]
 pub extern "C" fn opc_find_item(pkg: &[u8], name: &[u8]) -> Reply
-    ensures { λ r. ⌜ Ran (Call.Looks (Look.Find (now (name .entry)))) (now (pkg .entry)) (ofReply r []) (now (pkg .entry)) ⌝ }
+    ensures { λ r. ⌜ Replied (Call.Looks (Look.Find (now (name .entry)))) (now (pkg .entry)) r [] (now (pkg .entry)) ⌝ }
 {
     of_found(find_item(pkg, name))
 }
@@ -59,7 +58,7 @@ pub extern "C" fn opc_view_item(pkg: &[u8], name: &[u8]) -> Reply
 // The content of a part from an offset on, as much as the output takes.
 #[no_mangle]
 pub extern "C" fn opc_read_part(pkg: &[u8], name: &[u8], offset: u64, out: &mut [u8]) -> Reply
-    ensures { λ r. ⌜ Ran (Call.Prints (Print.ReadPart (now (name .entry)) offset) (now (out .entry))) (now (pkg .entry)) (ofReply r (now (out .exit))) (now (pkg .entry)) ⌝ }
+    ensures { λ r. ⌜ Replied (Call.Prints (Print.ReadPart (now (name .entry)) offset) (now (out .entry))) (now (pkg .entry)) r (now (out .exit)) (now (pkg .entry)) ⌝ }
 {
     of_written(read_part(pkg, name, offset, out))
 }
@@ -67,7 +66,7 @@ pub extern "C" fn opc_read_part(pkg: &[u8], name: &[u8], offset: u64, out: &mut 
 // The spelling of the part at a position in folded order.
 #[no_mangle]
 pub extern "C" fn opc_part_at(pkg: &[u8], position: u64, out: &mut [u8]) -> Reply
-    ensures { λ r. ⌜ Ran (Call.Prints (Print.PartAt position) (now (out .entry))) (now (pkg .entry)) (ofReply r (now (out .exit))) (now (pkg .entry)) ⌝ }
+    ensures { λ r. ⌜ Replied (Call.Prints (Print.PartAt position) (now (out .entry))) (now (pkg .entry)) r (now (out .exit)) (now (pkg .entry)) ⌝ }
 {
     of_written(part_at(pkg, position, out))
 }
@@ -75,7 +74,7 @@ pub extern "C" fn opc_part_at(pkg: &[u8], position: u64, out: &mut [u8]) -> Repl
 // How many items are held, how many groups are a part, the charge.
 #[no_mangle]
 pub extern "C" fn opc_totals(pkg: &[u8]) -> Reply
-    ensures { λ r. ⌜ Ran (Call.Looks Look.Totals) (now (pkg .entry)) (ofReply r []) (now (pkg .entry)) ⌝ }
+    ensures { λ r. ⌜ Replied (Call.Looks Look.Totals) (now (pkg .entry)) r [] (now (pkg .entry)) ⌝ }
 {
     of_totalled(totals(pkg))
 }

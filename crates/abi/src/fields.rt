@@ -13,33 +13,32 @@ use types::calls::put_override;
 use types::media::media_type;
 ghost use mathlib.Core.List.{[]};
 ghost use Rattle.model.specs.Calls.{Call, Change, Print};
-ghost use Rattle.contract.specs.Ran.{Ran};
-ghost use Rattle.abi.specs.Replies.{ofReply};
+ghost use Rattle.abi.specs.Replies.{Replied};
 
 #[no_mangle]
 pub extern "C" fn opc_put_default(pkg: &mut [u8], extension: &[u8], media: &[u8]) -> Reply
-    ensures { λ r. ⌜ Ran (Call.Changes (Change.PutDefault (now (extension .entry)) (now (media .entry)))) (now (pkg .entry)) (ofReply r []) (now (pkg .exit)) ⌝ }
+    ensures { λ r. ⌜ Replied (Call.Changes (Change.PutDefault (now (extension .entry)) (now (media .entry)))) (now (pkg .entry)) r [] (now (pkg .exit)) ⌝ }
 {
     of_did(put_default(pkg, extension, media))
 }
 
 #[no_mangle]
 pub extern "C" fn opc_drop_default(pkg: &mut [u8], extension: &[u8]) -> Reply
-    ensures { λ r. ⌜ Ran (Call.Changes (Change.DropDefault (now (extension .entry)))) (now (pkg .entry)) (ofReply r []) (now (pkg .exit)) ⌝ }
+    ensures { λ r. ⌜ Replied (Call.Changes (Change.DropDefault (now (extension .entry)))) (now (pkg .entry)) r [] (now (pkg .exit)) ⌝ }
 {
     of_did(drop_default(pkg, extension))
 }
 
 #[no_mangle]
 pub extern "C" fn opc_put_override(pkg: &mut [u8], name: &[u8], media: &[u8]) -> Reply
-    ensures { λ r. ⌜ Ran (Call.Changes (Change.PutOverride (now (name .entry)) (now (media .entry)))) (now (pkg .entry)) (ofReply r []) (now (pkg .exit)) ⌝ }
+    ensures { λ r. ⌜ Replied (Call.Changes (Change.PutOverride (now (name .entry)) (now (media .entry)))) (now (pkg .entry)) r [] (now (pkg .exit)) ⌝ }
 {
     of_did(put_override(pkg, name, media))
 }
 
 #[no_mangle]
 pub extern "C" fn opc_drop_override(pkg: &mut [u8], name: &[u8]) -> Reply
-    ensures { λ r. ⌜ Ran (Call.Changes (Change.DropOverride (now (name .entry)))) (now (pkg .entry)) (ofReply r []) (now (pkg .exit)) ⌝ }
+    ensures { λ r. ⌜ Replied (Call.Changes (Change.DropOverride (now (name .entry)))) (now (pkg .entry)) r [] (now (pkg .exit)) ⌝ }
 {
     of_did(drop_override(pkg, name))
 }
@@ -47,7 +46,7 @@ pub extern "C" fn opc_drop_override(pkg: &mut [u8], name: &[u8]) -> Reply
 // The media type of a part: its Override's, else that of the Default of its extension.
 #[no_mangle]
 pub extern "C" fn opc_media_type(pkg: &[u8], name: &[u8], out: &mut [u8]) -> Reply
-    ensures { λ r. ⌜ Ran (Call.Prints (Print.MediaType (now (name .entry))) (now (out .entry))) (now (pkg .entry)) (ofReply r (now (out .exit))) (now (pkg .entry)) ⌝ }
+    ensures { λ r. ⌜ Replied (Call.Prints (Print.MediaType (now (name .entry))) (now (out .entry))) (now (pkg .entry)) r (now (out .exit)) (now (pkg .entry)) ⌝ }
 {
     of_written(media_type(pkg, name, out))
 }
@@ -62,14 +61,14 @@ pub extern "C" fn opc_put_relationship(
     mode: u64,
     target: &[u8],
 ) -> Reply
-    ensures { λ r. ⌜ Ran (Call.Changes (Change.PutRelationship (now (source .entry)) (now (id .entry)) (now (kind .entry)) mode (now (target .entry)))) (now (pkg .entry)) (ofReply r []) (now (pkg .exit)) ⌝ }
+    ensures { λ r. ⌜ Replied (Call.Changes (Change.PutRelationship (now (source .entry)) (now (id .entry)) (now (kind .entry)) mode (now (target .entry)))) (now (pkg .entry)) r [] (now (pkg .exit)) ⌝ }
 {
     of_did(put_relationship(pkg, source, id, kind, mode, target))
 }
 
 #[no_mangle]
 pub extern "C" fn opc_drop_relationship(pkg: &mut [u8], source: &[u8], id: &[u8]) -> Reply
-    ensures { λ r. ⌜ Ran (Call.Changes (Change.DropRelationship (now (source .entry)) (now (id .entry)))) (now (pkg .entry)) (ofReply r []) (now (pkg .exit)) ⌝ }
+    ensures { λ r. ⌜ Replied (Call.Changes (Change.DropRelationship (now (source .entry)) (now (id .entry)))) (now (pkg .entry)) r [] (now (pkg .exit)) ⌝ }
 {
     of_did(drop_relationship(pkg, source, id))
 }
@@ -83,7 +82,7 @@ pub extern "C" fn opc_resolve_relationship(
     base: &[u8],
     out: &mut [u8],
 ) -> Reply
-    ensures { λ r. ⌜ Ran (Call.Prints (Print.ResolveRelationship (now (source .entry)) (now (id .entry)) (now (base .entry))) (now (out .entry))) (now (pkg .entry)) (ofReply r (now (out .exit))) (now (pkg .entry)) ⌝ }
+    ensures { λ r. ⌜ Replied (Call.Prints (Print.ResolveRelationship (now (source .entry)) (now (id .entry)) (now (base .entry))) (now (out .entry))) (now (pkg .entry)) r (now (out .exit)) (now (pkg .entry)) ⌝ }
 {
     of_resolution(resolve_relationship(pkg, source, id, base, out))
 }

@@ -9,6 +9,7 @@ use names::iris::is_iri;
 use names::iris::is_package_iri;
 use names::items::ItemName;
 use names::items::Suffix;
+use names::items::refusal;
 use names::items::take_apart;
 use names::parts::extension_at;
 use names::parts::is_part_name;
@@ -22,7 +23,7 @@ ghost use Rattle.names.specs.Names.{partName, reserved, extensionAt};
 ghost use Rattle.names.specs.Items.{itemName};
 ghost use Rattle.names.specs.Types.{mediaType, extension, identifier};
 ghost use Rattle.names.specs.Iris.{iri, packageIri};
-ghost use Rattle.abi.specs.Replies.{orderNumber, kind, itemReply};
+ghost use Rattle.abi.specs.Replies.{replyOf, orderNumber, kind, itemAnswer};
 
 #[no_mangle]
 pub extern "C" fn opc_is_part_name(s: &[u8]) -> bool
@@ -80,15 +81,16 @@ fn suffix_kind(last: bool) -> usize
 // The prefix's length; 0 for a whole item, 1 for a piece, 2 for the last piece; the piece's number.
 #[no_mangle]
 pub extern "C" fn opc_take_apart(s: &[u8]) -> Reply
-    ensures { λ r. ⌜ r ≡ itemReply (itemName (now (s .entry))) ⌝ }
+    ensures { λ r. ⌜ r ≡ replyOf (itemAnswer (itemName (now (s .entry)))) ⌝ }
 {
-    match take_apart(s) {
-        ItemName::Named(n, x) => match x {
-            Suffix::Whole => three(0, n, 0, 0),
-            Suffix::Piece(k, last) => three(0, n, suffix_kind(last), k),
-        },
-        ItemName::Refused(k) => three(k, 0, 0, 0),
-    }
+    let name = take_apart(s);
+    let ItemName::Named(n, x) = name else {
+        return three(refusal(name), 0, 0, 0);
+    };
+    let Suffix::Piece(k, last) = x else {
+        return three(0, n, 0, 0);
+    };
+    three(0, n, suffix_kind(last), k)
 }
 
 #[no_mangle]

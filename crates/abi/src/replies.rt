@@ -7,16 +7,16 @@ use iri::writing::Written;
 use items::places::Span;
 use relationships::resolving::Resolution;
 ghost use mathlib.Core.Path.{_≡_};
-ghost use mathlib.Core.List.{List, []};
+ghost use mathlib.Core.List.{List, [], _∷_};
 ghost use Prim.Native.Nat.{ℕ};
-ghost use Rattle.iri.specs.Answers.{ofWritten};
+ghost use Rattle.iri.specs.Answers.{answer, unanswered, ofWritten};
 ghost use Rattle.iri.specs.Pack.{ofResolved};
 ghost use Rattle.model.specs.Calls.{flag as flagOf};
 ghost use Rattle.contract.specs.Answers.{ofDid, ofFound, ofTotalled};
 ghost use Rattle.relationships.specs.Resolutions.{ofResolution};
-ghost use Rattle.abi.specs.Replies.{ofReply};
+ghost use Rattle.abi.specs.Replies.{replyOf, HandsOver};
 
-// A call's number (0: accepted), and how many of the three values count.
+// A call's number (0: accepted), how many values it answers, and the values; the others are 0.
 #[repr(C)]
 pub struct Reply {
     pub number: u64,
@@ -26,44 +26,38 @@ pub struct Reply {
     pub third: u64,
 }
 
-pub(crate) fn one(n: u8, first: usize) -> Reply
-    ensures { λ r. ⌜ r ≡ record { number = n; count = 1; first = first; second = 0; third = 0 } ⌝ }
+fn of_values(n: u8, count: u64, first: usize, second: usize, third: usize) -> Reply
+    ensures { λ r. ⌜ r ≡ record { number = n; count = count; first = first; second = second; third = third } ⌝ }
 {
     Reply {
         number: n as u64,
-        count: 1,
-        first: first as u64,
-        second: 0,
-        third: 0,
-    }
-}
-
-pub(crate) fn two(n: u8, first: usize, second: usize) -> Reply
-    ensures { λ r. ⌜ r ≡ record { number = n; count = 2; first = first; second = second; third = 0 } ⌝ }
-{
-    Reply {
-        number: n as u64,
-        count: 2,
-        first: first as u64,
-        second: second as u64,
-        third: 0,
-    }
-}
-
-pub(crate) fn three(n: u8, first: usize, second: usize, third: usize) -> Reply
-    ensures { λ r. ⌜ r ≡ record { number = n; count = 3; first = first; second = second; third = third } ⌝ }
-{
-    Reply {
-        number: n as u64,
-        count: 3,
+        count,
         first: first as u64,
         second: second as u64,
         third: third as u64,
     }
 }
 
+pub(crate) fn one(n: u8, first: usize) -> Reply
+    ensures { λ r. ⌜ r ≡ replyOf (answer n (first ∷ []) []) ⌝ }
+{
+    of_values(n, 1, first, 0, 0)
+}
+
+pub(crate) fn two(n: u8, first: usize, second: usize) -> Reply
+    ensures { λ r. ⌜ r ≡ replyOf (answer n (first ∷ second ∷ []) []) ⌝ }
+{
+    of_values(n, 2, first, second, 0)
+}
+
+pub(crate) fn three(n: u8, first: usize, second: usize, third: usize) -> Reply
+    ensures { λ r. ⌜ r ≡ replyOf (answer n (first ∷ second ∷ third ∷ []) []) ⌝ }
+{
+    of_values(n, 3, first, second, third)
+}
+
 pub(crate) fn of_written(w: Written) -> Reply
-    ensures { λ r. ⌜ ((out : List ℕ) → ofReply r out ≡ ofWritten w out) ⌝ }
+    ensures { λ r. ⌜ ((out : List ℕ) → (ofWritten w out ≡ unanswered → ⊥) → HandsOver (ofWritten w out) 1 r out) ⌝ }
 {
     match w {
         Written::Bytes(n) => one(0, n),
@@ -73,7 +67,7 @@ pub(crate) fn of_written(w: Written) -> Reply
 }
 
 pub(crate) fn of_resolved(w: Resolved) -> Reply
-    ensures { λ r. ⌜ ((out : List ℕ) → ofReply r out ≡ ofResolved w out) ⌝ }
+    ensures { λ r. ⌜ ((out : List ℕ) → (ofResolved w out ≡ unanswered → ⊥) → HandsOver (ofResolved w out) 2 r out) ⌝ }
 {
     match w {
         Resolved::Found(a, b) => two(0, a, b),
@@ -83,7 +77,7 @@ pub(crate) fn of_resolved(w: Resolved) -> Reply
 }
 
 pub(crate) fn of_did(d: Did) -> Reply
-    ensures { λ r. ⌜ ofReply r [] ≡ ofDid d ⌝ }
+    ensures { λ r. ⌜ ((ofDid d ≡ unanswered → ⊥) → HandsOver (ofDid d) 1 r []) ⌝ }
 {
     match d {
         Did::Done => one(0, 0),
@@ -92,7 +86,7 @@ pub(crate) fn of_did(d: Did) -> Reply
 }
 
 pub(crate) fn of_found(d: Found) -> Reply
-    ensures { λ r. ⌜ ofReply r [] ≡ ofFound d ⌝ }
+    ensures { λ r. ⌜ ((ofFound d ≡ unanswered → ⊥) → HandsOver (ofFound d) 1 r []) ⌝ }
 {
     match d {
         Found::Length(n) => one(0, n),
@@ -101,7 +95,7 @@ pub(crate) fn of_found(d: Found) -> Reply
 }
 
 pub(crate) fn of_totalled(d: Totalled) -> Reply
-    ensures { λ r. ⌜ ofReply r [] ≡ ofTotalled d ⌝ }
+    ensures { λ r. ⌜ ((ofTotalled d ≡ unanswered → ⊥) → HandsOver (ofTotalled d) 3 r []) ⌝ }
 {
     match d {
         Totalled::Of {
@@ -114,7 +108,7 @@ pub(crate) fn of_totalled(d: Totalled) -> Reply
 }
 
 pub(crate) fn of_span(s: Span) -> Reply
-    ensures { λ r. ⌜ r ≡ record { number = 0; count = 2; first = s .at; second = s .length; third = 0 } ⌝ }
+    ensures { λ r. ⌜ r ≡ replyOf (answer 0 (s .at ∷ s .length ∷ []) []) ⌝ }
 {
     two(0, s.at, s.length)
 }
@@ -126,7 +120,7 @@ fn flag(b: bool) -> usize
 }
 
 pub(crate) fn of_resolution(w: Resolution) -> Reply
-    ensures { λ r. ⌜ ((out : List ℕ) → ofReply r out ≡ ofResolution w out) ⌝ }
+    ensures { λ r. ⌜ ((out : List ℕ) → (ofResolution w out ≡ unanswered → ⊥) → HandsOver (ofResolution w out) 3 r out) ⌝ }
 {
     match w {
         Resolution::Internal { length, held } => three(0, length, 0, flag(held)),

@@ -6,15 +6,19 @@ use mathlib.Core.Bool.{Bool, true, not, true≢false}
 use native.Mathlib.Omega.{arith}
 use lib.ListN.{length, take, drop}
 use Rattle.chars.proofs.Searches.{take-rest}
-use Rattle.iri.specs.Answers.{Answer}
+use Rattle.iri.specs.Answers.{Answer, unanswered}
 use Rattle.iri.specs.Scratch.{Sent}
+use Rattle.iri.proofs.Sending.{refusing-answered}
 use Rattle.model.specs.Sets.{Bytes}
-use Rattle.model.specs.Calls.{Change, Changes}
+use Rattle.model.specs.Calls.{Change, Changes, refused}
 use Rattle.model.specs.Sheet.{Line, Does, Lists, Unreadable, lineRead, numberLine, shownBy}
 use Rattle.store.specs.Packages.{isPackage}
+use Rattle.contract.specs.Answers.{ofDid}
+use Rattle.contract.specs.declared.answers.Did.{Did}
+use Rattle.contract.specs.declared.answers.Did.the-variants.{Refused}
 use Rattle.contract.specs.Holds.{Holds}
 use Rattle.contract.specs.Ran.{Ran}
-use Rattle.contract.proofs.Rans.{is-package, closed}
+use Rattle.contract.proofs.Rans.{is-package, closed, answered}
 use Rattle.lines.specs.Reading.{Parsed}
 use Rattle.lines.specs.declared.parsing.Command.{Command}
 use Rattle.lines.proofs.Sends.{answer-length}
@@ -22,14 +26,17 @@ use Rattle.commands.specs.Listings.{Listed}
 use Rattle.commands.specs.Running.{Numbered, LineRun}
 
 -- A CHANGE
-pub numbered : (c : Change) (p : Bytes) (a : Answer) (q : Bytes) (n : ℕ) → Ran (Changes c) p a q → n ≡ a .number → Numbered c p n q
+pub refused-number : (d : Did) (k : ℕ) → d ≡ Refused k → (ofDid d ≡ unanswered → ⊥) → k ≡ (ofDid d) .number
+refused-number d k e z = sym (ap (λ (a : Answer). a .number) (ap ofDid e ∙ refusing-answered k (refused k) (λ u. z (ap ofDid e ∙ u))))
+
+pub numbered : (c : Change) (p : Bytes) (a : Answer) (q : Bytes) (n : ℕ) → Ran (Changes c) p a q → ((a ≡ unanswered → ⊥) → n ≡ a .number) → Numbered c p n q
 numbered c p a q n r e = record {
-  is = λ S h. let s = r .ledger S h in (e ∙ ap (λ (x : Answer). x .number) (s .0), s .1);
+  is = λ S h. let s = r .ledger S h in (e (answered (Changes c) p a q r) ∙ ap (λ (x : Answer). x .number) (s .0), s .1);
   size = r .sized;
 }
 
 -- its last field is the rest of the line
-pub numbered-rest : (f : Bytes → Change) (l p : Bytes) (a : Answer) (q : Bytes) (n i : ℕ) → Ran (Changes (f (take (length l - i) (drop i l)))) p a q → n ≡ a .number → Numbered (f (drop i l)) p n q
+pub numbered-rest : (f : Bytes → Change) (l p : Bytes) (a : Answer) (q : Bytes) (n i : ℕ) → Ran (Changes (f (take (length l - i) (drop i l)))) p a q → ((a ≡ unanswered → ⊥) → n ≡ a .number) → Numbered (f (drop i l)) p n q
 numbered-rest f l p a q n i r e = numbered (f (drop i l)) p a q n (subst (λ (s : Bytes). Ran (Changes (f s)) p a q) (take-rest l i) r) e
 
 -- A LISTING of what is no package is free

@@ -12,6 +12,7 @@ use types::calls::put_override;
 ghost use mathlib.Core.Path.{_≡_};
 ghost use Prim.Native.Nat.{_<_};
 ghost use lib.ListN.{length, drop};
+ghost use Rattle.iri.specs.Answers.{unanswered};
 ghost use Rattle.model.specs.Calls.{Change};
 ghost use Rattle.contract.specs.Answers.{ofDid};
 ghost use Rattle.lines.specs.Reading.{fieldTo, fieldAfter};
@@ -19,7 +20,7 @@ ghost use Rattle.commands.specs.Listings.{Listed};
 ghost use Rattle.commands.specs.Running.{Numbered, LineRun};
 
 fn number_of(d: Did) -> u8
-    ensures { λ r. ⌜ r ≡ (ofDid d) .number ⌝ }
+    ensures { λ r. ⌜ ((ofDid d ≡ unanswered → ⊥) → r ≡ (ofDid d) .number) ⌝ }
 {
     match d {
         Did::Done => 0,

@@ -1,20 +1,26 @@
 -- The ways in which a call's answer is right: one law for each.
 -- Assumes nothing.
-use Prim.Native.Nat.{ℕ}
+use Prim.Native.Nat.{ℕ, _+_, _≤_}
 use mathlib.Core.Path.{_≡_, refl, ap, sym, _∙_, subst}
-use mathlib.Core.Bool.{Bool, true, false, not, true≢false}
+use mathlib.Core.Bool.{Bool, true, false, not, _||_, true≢false}
 use mathlib.Core.List.{List, []}
+use native.Mathlib.Omega.{arith}
+use lib.Dec.{ltb, eqb}
 use lib.ListN.{length}
-use borrow.Author.Tests.{eq-eqb, ne-eqb, not-true, not-false}
-use Rattle.iri.specs.Answers.{Answer}
+use borrow.Author.Tests.{eq-eqb, ne-eqb, eqb-true, eqb-false, not-true, not-false}
+use Rattle.iri.specs.Answers.{Answer, unanswered}
+use Rattle.iri.proofs.Sending.{refusing-is}
+use Rattle.model.specs.Fields.{when}
 use Rattle.model.specs.Package.{State, empty}
-use Rattle.model.specs.Calls.{Look, Change, Print, Start, Looks, Changes, Prints, done, refused, changed, Numbered, startRefusal, look, change, changeRefusal, changeMade, printed, filled, valueCount}
+use Rattle.model.specs.Calls.{Look, Find, View, Totals, Change, Print, Call, Start, Looks, Changes, Prints, done, refused, changed, Numbered, capacityLimit, overhead, startRefusal, look, change, changeRefusal, changeMade, printed, filled, valueCount}
 use Rattle.model.proofs.Numbers.{zero-numbered, change-numbered}
 use Rattle.model.proofs.Steps.{change-good}
 use Rattle.store.specs.Packages.{Shape, isPackage}
 use Rattle.store.proofs.PackageTest.{sound-package, package-shape}
 use Rattle.contract.specs.Holds.{Lies, Holds}
-use Rattle.contract.specs.Ran.{Ran, noPackage}
+use Rattle.contract.specs.Answers.{ofDid}
+use Rattle.contract.specs.declared.answers.Did.the-variants.{Refused}
+use Rattle.contract.specs.Ran.{Ran, noPackage, starts}
 
 -- what holds an abstract package passes the test
 pub is-package : (b : List ℕ) (S : State) → Holds b S → isPackage b ≡ true
@@ -111,9 +117,11 @@ ran-changed p t c a q l n k e = record {
 }
 
 -- a change that is refused by its fields
-pub field-refused : (p : List ℕ) → isPackage p ≡ true → (c : Change) (n : ℕ) → (n ≡ 0 → ⊥) → ((S : State) → changeRefusal S c ≡ n) → Ran (Changes c) p (refused n) p
+pub field-refused : (p : List ℕ) → isPackage p ≡ true → (c : Change) (n : ℕ) → (n ≡ 0 → ⊥) → ((S : State) → changeRefusal S c ≡ n) → Ran (Changes c) p (ofDid (Refused n)) p
 unfolding change
-field-refused p t c n z e = change-refused p t c n (subst Numbered (e (empty 0)) (change-numbered (empty 0) c)) (λ S h. ap (λ (j : ℕ). changed j S (changeMade S c)) (e S) ∙ changed-refused n S (changeMade S c) z)
+field-refused p t c n z e =
+    rw (refusing-is n z (refused n))
+    (change-refused p t c n (subst Numbered (e (empty 0)) (change-numbered (empty 0) c)) (λ S h. ap (λ (j : ℕ). changed j S (changeMade S c)) (e S) ∙ changed-refused n S (changeMade S c) z))
 
 -- x is the test of the buffer
 module _ (p : List ℕ) (x : Bool) (ex : x ≡ isPackage p) where
@@ -125,3 +133,40 @@ module _ (p : List ℕ) (x : Bool) (ex : x ≡ isPackage p) where
 
   pub opened-shape : not x ≡ false → Shape p
   opened-shape h = package-shape p (opened h)
+
+-- A CALL ANSWERS: its number is one of document 01's, whatever the bytes
+start-small : (room C : ℕ) → startRefusal room C ≤ 2
+unfolding startRefusal
+start-small room C = go (ltb capacityLimit C || ltb room (C + overhead))
+  where
+    go : (t : Bool) → when t 2 ≤ 2
+    go true = omega arith
+    go false = omega arith
+
+foreign-small : (c : Call) → noPackage c .number ≤ 1
+foreign-small (Start C) = omega arith
+foreign-small (Looks (Find name)) = omega arith
+foreign-small (Looks (View name)) = omega arith
+foreign-small (Looks Totals) = omega arith
+foreign-small (Changes c) = omega arith
+foreign-small (Prints w output) = omega arith
+
+tested : (c : Call) (p : List ℕ) (a : Answer) (q : List ℕ) → Ran c p a q → starts c ≡ false → a .number ≤ 16
+tested c p a q r s = go (isPackage p) refl
+  where
+    go : (t : Bool) → isPackage p ≡ t → a .number ≤ 16
+    go true e = r .numbered s e .0
+    go false e = omega (arith, foreign-small c, ap (λ (x : Answer). x .number) (r .foreign s e))
+
+pub ran-number : (c : Call) (p : List ℕ) (a : Answer) (q : List ℕ) → Ran c p a q → a .number ≤ 16
+ran-number (Start C) p a q r = go (eqb (startRefusal (length p) C) 0) refl
+  where
+    go : (t : Bool) → eqb (startRefusal (length p) C) 0 ≡ t → a .number ≤ 16
+    go true e = omega (arith, ap (λ (x : Answer). x .number) (r .begun .0 (eqb-true (startRefusal (length p) C) 0 e) .0))
+    go false e = omega (arith, start-small (length p) C, ap (λ (x : Answer). x .number) (r .begun .1 (eqb-false (startRefusal (length p) C) 0 e)))
+ran-number (Looks l) p a q r = tested (Looks l) p a q r refl
+ran-number (Changes c) p a q r = tested (Changes c) p a q r refl
+ran-number (Prints w output) p a q r = tested (Prints w output) p a q r refl
+
+pub answered : (c : Call) (p : List ℕ) (a : Answer) (q : List ℕ) → Ran c p a q → a ≡ unanswered → ⊥
+answered c p a q r e = omega (arith, ran-number c p a q r, ap (λ (x : Answer). x .number) e)

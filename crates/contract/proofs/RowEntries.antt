@@ -9,6 +9,7 @@ use native.Mathlib.Omega.{arith}
 use lib.Dec.{leb, ltb, eqb}
 use lib.ListN.{length, getD, take, drop}
 use borrow.Author.Tests.{lt-ltb, le-ltb, le-leb, lt-leb, leb-true, leb-false, ltb-true, ltb-false}
+use Rattle.iri.proofs.Sending.{refusing-is}
 use Rattle.model.specs.Sets.{Bytes, Key, sameKey, held, lookup, insert, remove}
 use Rattle.model.specs.Places.{bound, place, spot}
 use Rattle.model.specs.Calls.{done, refused}
@@ -24,6 +25,8 @@ use Rattle.store.specs.Packages.{Sound, Room, Inserted, Removed}
 use Rattle.store.proofs.Headers.{rows-count, row-getD}
 use Rattle.contract.specs.Rows.{setOf, keyIn, rowKey}
 use Rattle.contract.specs.Searches.{Ordered, Has, Bounded}
+use Rattle.contract.specs.Answers.{ofDid}
+use Rattle.contract.specs.declared.answers.Did.the-variants.{Refused}
 use Rattle.contract.specs.Entries.{Sought, rowCount, RowsCounted, keyTaken, noRowRoom, Weighed, Became, Entered, Dropped}
 
 -- an entry is held where its spot is one of the list
@@ -196,14 +199,14 @@ module _ (b : List ℕ) (limit t : ℕ) (f0 f1 f2 f3 : Bytes) (m set r : ℕ) (e
 
 -- the row put in
 module _ (b : List ℕ) (limit t : ℕ) (f0 f1 f2 f3 : Bytes) (k : ℕ) (w : Weighed b limit (makeRow t f0 f1 f2 f3) k) where
-  pub entered-refused : (k ≡ 0 → ⊥) → Entered b limit (makeRow t f0 f1 f2 f3) (refused k) b
-  entered-refused z = record {
+  pub entered-refused : (k ≡ 0 → ⊥) → Entered b limit (makeRow t f0 f1 f2 f3) (ofDid (Refused k)) b
+  entered-refused z = rw (refusing-is k z (refused k)) (record {
     kept = λ _. (refl, refl);
     numbered = w .numbered;
     taken = λ q h. ap refused (w .taken q h);
     full = λ q h f. ap refused (w .full q h f);
     made = λ q h f s. absurd (z (w .clear q h f s));
-  }
+  })
 
   module _ (z : k ≡ 0) (set r : ℕ) (es : set ≡ setOf t) (eb : Bounded b (keyIn set f0 t f1) r) where
     pub entered-room : Room b r (length f0 + (length f1 + (length f2 + length f3)))

@@ -2,7 +2,7 @@
 -- Assumes nothing.
 use Prim.Native.Nat.{ℕ}
 use mathlib.Core.List.{List, [], _∷_}
-use Rattle.iri.specs.Answers.{Answer, answer}
+use Rattle.iri.specs.Answers.{Answer, answer, refusing}
 use Rattle.model.specs.Calls.{done, refused}
 use Rattle.contract.specs.declared.answers.Did.{Did}
 use Rattle.contract.specs.declared.answers.Did.the-variants as did
@@ -13,15 +13,15 @@ use Rattle.contract.specs.declared.answers.Totalled.the-variants as tota
 
 abbrev pub ofDid : Did → Answer
 ofDid did.Done = done
-ofDid (did.Refused n) = refused n
+ofDid (did.Refused n) = refusing n (refused n)
 
 abbrev pub ofFound : Found → Answer
 ofFound (found.Length n) = answer 0 (n ∷ []) []
-ofFound (found.Refused n) = refused n
+ofFound (found.Refused n) = refusing n (refused n)
 
 abbrev pub ofTotalled : Totalled → Answer
 ofTotalled (totalled.Of i p c) = answer 0 (i ∷ p ∷ c ∷ []) []
-ofTotalled (totalled.Refused n) = answer n (0 ∷ 0 ∷ 0 ∷ []) []
+ofTotalled (totalled.Refused n) = refusing n (answer n (0 ∷ 0 ∷ 0 ∷ []) [])
 
 -- a view's part of the package is its only answer
 abbrev pub ofView : List ℕ → Answer

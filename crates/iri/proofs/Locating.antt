@@ -3,7 +3,7 @@
 use Prim.Native.Nat.{ℕ, _-_, _<_, _≤_, _+_}
 use mathlib.Core.Path.{_≡_, _∙_, ap, sym}
 use mathlib.Core.Bool.{Bool, _&&_, not, _||_, true, false}
-use mathlib.Core.List.{List, _++_}
+use mathlib.Core.List.{List, [], _∷_, _++_}
 use native.Mathlib.Omega.{arith}
 use lib.Dec.{eqb, leb}
 use lib.ListN.{take, length, drop, length-drop, length-append}
@@ -16,9 +16,11 @@ use Rattle.chars.proofs.Searches.{take-rest}
 use Rattle.names.proofs.Reserved.{drop-take}
 use Rattle.iri.specs.Components.{authorityOf, pathOf, authorityLength, afterScheme}
 use Rattle.iri.specs.Scratch.{SplitAt}
+use Rattle.iri.specs.Answers.{answer}
 use Rattle.iri.specs.Pack.{packForm, partOrRoot, located, Not, resolvePack, Location, ofResolved, Found}
 use Rattle.iri.specs.Scratch.{Placed, PlacedAs}
 use Rattle.iri.specs.declared.pack.Place.{Place}
+use Rattle.iri.proofs.Sending.{refusing-is}
 use Rattle.iri.proofs.Splitting.{authority-le, authority-length, none-after, authority-two}
 use Rattle.iri.specs.declared.pack.Place.the-variants as place
 use Rattle.iri.specs.declared.pack.Resolved.the-variants as resolved
@@ -94,8 +96,8 @@ pub placed-at : (s : List ℕ) (p : Place) (x y : ℕ) → p ≡ place.At x y �
 placed-at s p x y e h = rw e at h
 
 -- what resolving answers
-pub located-refused : (t : Location) (k : ℕ) (out : List ℕ) → t ≡ Not k → ofResolved (resolved.Refused k) out ≡ located t out
-located-refused t k out e = rw e
+pub located-refused : (t : Location) (k : ℕ) (out : List ℕ) → (k ≡ 0 → ⊥) → t ≡ Not k → ofResolved (resolved.Refused k) out ≡ located t out
+located-refused t k out z e = refusing-is k z (answer k (0 ∷ 0 ∷ []) out) ∙ rw e
 
 module _ (t : Location) (p n out : List ℕ) (a b : ℕ) (e : t ≡ Found p n) (ea : a ≡ length p) (eb : b ≡ length n) where
   sum : length (p ++ n) ≡ a + b

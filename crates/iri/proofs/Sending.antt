@@ -1,6 +1,6 @@
 -- The laws of what is sent to an output.
 -- Assumes nothing.
-use Prim.Native.Nat.{ℕ, _+_, _-_, _<_, _≤_, min}
+use Prim.Native.Nat.{ℕ, zero, suc, _+_, _-_, _<_, _≤_, min}
 use mathlib.Core.Path.{_≡_, ap, _∙_, sym, refl, subst}
 use mathlib.Core.Bool.{false, true}
 use mathlib.Core.List.{List, append-assoc, append-nil, [], _++_, _∷_}
@@ -12,7 +12,7 @@ use lib.ListN.{length, set, getD, take, drop, take-append-drop, length-append, l
 use lib.Seq.{paste, paste-suc, take-length, length-take-le, take-at, drop-append-add, drop-drop, take-append-seam}
 use borrow.Author.Tests.{lt-leb, le-leb}
 use Rattle.chars.proofs.Searches.{take-rest}
-use Rattle.iri.specs.Answers.{Outcome, No, ofWritten, written, Text}
+use Rattle.iri.specs.Answers.{Outcome, No, Text, Answer, answer, unanswered, refusing, ofWritten, written}
 use Rattle.iri.specs.Scratch.{Sent, Fitted}
 use Rattle.iri.specs.declared.writing.Written.the-variants.{Refused, Short, Bytes}
 use Rattle.iri.proofs.DotTurns.{fits}
@@ -58,9 +58,18 @@ sent-more o o₁ o₂ b c at m n r l s = record {
       e₂ ∙ rw (k, d, append-assoc (take at o) b (c ++ drop (at + length (b ++ c)) o), append-assoc b c (drop (at + length (b ++ c)) o));
 }
 
+-- a refusal is the answer that it says where its number is not 0, and where it is an answer at all
+pub refusing-is : (k : ℕ) → (k ≡ 0 → ⊥) → (a : Answer) → refusing k a ≡ a
+refusing-is zero z a = absurd (z refl)
+refusing-is (suc k) z a = refl
+
+pub refusing-answered : (k : ℕ) (a : Answer) → (refusing k a ≡ unanswered → ⊥) → refusing k a ≡ a
+refusing-answered zero a z = absurd (z refl)
+refusing-answered (suc k) a z = refl
+
 -- what a call that writes answers
-pub answer-refused : (o : Outcome) (k : ℕ) (out : List ℕ) → o ≡ No k → ofWritten (Refused k) out ≡ written o out
-answer-refused o k out e = rw e
+pub answer-refused : (o : Outcome) (k : ℕ) (out : List ℕ) → (k ≡ 0 → ⊥) → o ≡ No k → ofWritten (Refused k) out ≡ written o out
+answer-refused o k out z e = refusing-is k z (answer k (0 ∷ []) out) ∙ rw e
 
 pub answer-short : (o : Outcome) (t out out' : List ℕ) (n : ℕ) → o ≡ Text t → n ≡ length t → length out < n → out' ≡ out → ofWritten (Short n) out' ≡ written o out
 answer-short o t out out' n e f l k =

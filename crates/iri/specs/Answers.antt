@@ -32,11 +32,21 @@ pub record Answer : Type 0 where
 abbrev pub answer : ℕ → List ℕ → List ℕ → Answer
 answer n vs o = record { number = n; values = vs; output = o }
 
--- document 01's number and value for each case of `Written`
+-- what no call answers, whatever it is asked: the number is none of document 01's, and there are no values
+abbrev pub unanswered : Answer
+unanswered = answer 256 [] []
+
+-- the answer a of a refusal by the number k. 0 refuses nothing, so a case that says so is never right
+abbrev pub refusing : ℕ → Answer → Answer
+refusing zero a = unanswered
+refusing (suc k) a = a
+
+-- document 01's number and value for each case of `Written`. (A refusal by 3 is none either: a text that
+-- doesn't fit has a length above 0.)
 abbrev pub ofWritten : Written → List ℕ → Answer
 ofWritten (Bytes n) out = answer 0 (n ∷ []) out
 ofWritten (Short n) out = answer 3 (n ∷ []) out
-ofWritten (Refused k) out = answer k (0 ∷ []) out
+ofWritten (Refused k) out = refusing k (answer k (0 ∷ []) out)
 
 -- "where it writes bytes, their number is the value"; "Output past the written bytes is kept"; "3 output too short (carries the length
 -- needed)"; "A refusal answers its number and 0 for every value (3: the length as the first); .. outputs stay unchanged"

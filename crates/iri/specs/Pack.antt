@@ -15,7 +15,7 @@ use Rattle.names.specs.Iris.{packageIri}
 use Rattle.iri.specs.Components.{question, comma, atSign, defined, schemeOf, authorityOf, pathOf, queryOf, fragmentOf}
 use Rattle.iri.specs.References.{resolve}
 use Rattle.iri.specs.Targets.{internal, resolvePath}
-use Rattle.iri.specs.Answers.{Outcome, Text, unless, Answer, answer}
+use Rattle.iri.specs.Answers.{Outcome, Text, unless, Answer, answer, refusing}
 use Rattle.iri.specs.declared.pack.Resolved.{Resolved}
 use Rattle.iri.specs.declared.pack.Resolved.the-variants as resolved
 
@@ -119,7 +119,7 @@ TargetsResolve =
 abbrev pub ofResolved : Resolved → List ℕ → Answer
 ofResolved (resolved.Found a b) out = answer 0 (a ∷ b ∷ []) out
 ofResolved (resolved.Short n) out = answer 3 (n ∷ 0 ∷ []) out
-ofResolved (resolved.Refused k) out = answer k (0 ∷ 0 ∷ []) out
+ofResolved (resolved.Refused k) out = refusing k (answer k (0 ∷ 0 ∷ []) out)
 
 -- "The output holds the package IRI, directly followed by the part name if there is one; both lengths are answered, and 3 carries their sum."
 abbrev pub locatedWhere : Bool → List ℕ → List ℕ → List ℕ → Answer

@@ -15,6 +15,7 @@ use Rattle.chars.specs.Lists.{split, all}
 use Rattle.chars.proofs.Bools.{and-left}
 use Rattle.chars.proofs.Searches.{take-rest}
 use Rattle.names.specs.Names.{segment, partName}
+use Rattle.iri.proofs.Sending.{refusing-is}
 use Rattle.model.specs.Sets.{Bytes, insert, remove, held, lookup}
 use Rattle.model.specs.Places.{place, spot}
 use Rattle.model.specs.Fields.{first, prefixOf, suffixOf, itemField}
@@ -30,6 +31,8 @@ use Rattle.store.specs.Layout.{countOf}
 use Rattle.store.specs.Rows.{makeRow, insertAt, removeAt}
 use Rattle.store.specs.Packages.{isPackage, Sound, Room, Inserted, Removed}
 use Rattle.contract.specs.Rows.{tagOf, itemRow, otherRows, rowsFor, keyIn}
+use Rattle.contract.specs.Answers.{ofDid}
+use Rattle.contract.specs.declared.answers.Did.the-variants as did
 use Rattle.contract.specs.Holds.{Lies, Holds}
 use Rattle.contract.specs.Ran.{Ran}
 use Rattle.contract.specs.Searches.{Bounded}
@@ -123,12 +126,12 @@ module _ (p s : Bytes) (x : Bool) (ex : x ≡ isPackage p) where
   put-foreign bytes h = changes-foreign p (closed p x ex h) (PutItem s bytes)
 
   module _ (hx : not x ≡ false) (w : Wanted) (ew : w ≡ wanted (itemField s) s) where
-    pub drop-refused : (k : ℕ) → w ≡ Refused k → Ran (Changes (DropItem s)) p (refused k) p
+    pub drop-refused : (k : ℕ) → w ≡ Refused k → Ran (Changes (DropItem s)) p (ofDid (did.Refused k)) p
     drop-refused k e =
         let z = wanted-refused (itemField s) s w ew k e in
         field-refused p (opened p x ex hx) (DropItem s) k (z .1) (λ S. drop-named S s k (z .0) (z .1))
 
-    pub put-refused : (bytes : Bytes) (k : ℕ) → w ≡ Refused k → Ran (Changes (PutItem s bytes)) p (refused k) p
+    pub put-refused : (bytes : Bytes) (k : ℕ) → w ≡ Refused k → Ran (Changes (PutItem s bytes)) p (ofDid (did.Refused k)) p
     put-refused bytes k e =
         let z = wanted-refused (itemField s) s w ew k e in
         field-refused p (opened p x ex hx) (PutItem s bytes) k (z .1) (λ S. put-named S s bytes k (z .0) (z .1))
@@ -159,8 +162,8 @@ module _ (p s : Bytes) (x : Bool) (ex : x ≡ isPackage p) where
                 (refl, record { sound = o .sound; rows = o .rows ∙ ap (removeAt r) (h .lies .rows) ∙ removed-rows S s r (f .place (omega arith)) (f .within (omega arith)); capacity = o .cap ∙ h .lies .capacity })
 
       module _ (bytes : Bytes) (r k : ℕ) (eb : Bounded p (keyIn 0 (take n s) t []) r) (ek : Cleared p s (length bytes) r k) where
-        pub put-clash : (k ≡ 0 → ⊥) → Ran (Changes (PutItem s bytes)) p (refused k) p
-        put-clash z = change-refused p (opened p x ex hx) (PutItem s bytes) k (ek .numbered) (λ S h. put-no S s bytes k (ek .is S bytes h refl) z)
+        pub put-clash : (k ≡ 0 → ⊥) → Ran (Changes (PutItem s bytes)) p (ofDid (did.Refused k)) p
+        put-clash z = rw (refusing-is k z (refused k)) (change-refused p (opened p x ex hx) (PutItem s bytes) k (ek .numbered) (λ S h. put-no S s bytes k (ek .is S bytes h refl) z))
 
         pub put-room : k ≡ 0 → Room p r (length (take n s) + (length (take (length s - n) (drop n s)) + (length bytes + 0)))
         put-room z = subst (Room p r) sum (ek .room z)

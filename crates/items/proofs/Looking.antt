@@ -9,6 +9,7 @@ use native.Mathlib.Omega.{arith}
 use lib.ListN.{length, getD}
 use borrow.Author.Tests.{ne-eqb}
 use Rattle.iri.specs.Answers.{answer}
+use Rattle.iri.proofs.Sending.{refusing-is}
 use Rattle.model.specs.Sets.{Bytes}
 use Rattle.model.specs.Fields.{first, prefixOf, suffixOf, askedField}
 use Rattle.model.specs.Package.{noItem, State, Item, itemAt}
@@ -18,7 +19,8 @@ use Rattle.store.specs.Layout.{countOf}
 use Rattle.store.specs.Rows.{rowAt, fieldOf}
 use Rattle.store.specs.Packages.{isPackage, Sound}
 use Rattle.contract.specs.Rows.{tagOf}
-use Rattle.contract.specs.Answers.{ofView}
+use Rattle.contract.specs.Answers.{ofFound, ofView}
+use Rattle.contract.specs.declared.answers.Found.the-variants as found
 use Rattle.contract.specs.Holds.{Holds}
 use Rattle.contract.specs.Ran.{Ran}
 use Rattle.contract.proofs.Rans.{looks-foreign, looked, closed, opened}
@@ -69,10 +71,10 @@ module _ (p s : Bytes) (x : Bool) (ex : x ≡ isPackage p) where
   view-foreign h = looks-foreign p (closed p x ex h) (View s) refl
 
   module _ (hx : not x ≡ false) (w : Wanted) (ew : w ≡ wanted (askedField s) s) where
-    pub find-refused : (k : ℕ) → w ≡ Refused k → Ran (Looks (Find s)) p (refused k) p
+    pub find-refused : (k : ℕ) → w ≡ Refused k → Ran (Looks (Find s)) p (ofFound (found.Refused k)) p
     find-refused k e =
         let z = wanted-refused (askedField s) s w ew k e in
-        looked p (opened p x ex hx) (Find s) (refused k) (subst Numbered (z .0) (asked-field-numbered s)) (λ _. refl) (λ S h. find-no S s k (asked-first S s k (z .0) (z .1)) (z .1))
+        rw (refusing-is k (z .1) (refused k)) (looked p (opened p x ex hx) (Find s) (refused k) (subst Numbered (z .0) (asked-field-numbered s)) (λ _. refl) (λ S h. find-no S s k (asked-first S s k (z .0) (z .1)) (z .1)))
 
     pub view-refused : (k : ℕ) → w ≡ Refused k → Ran (Looks (View s)) p (ofView []) p
     view-refused k e =

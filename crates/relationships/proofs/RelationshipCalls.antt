@@ -15,11 +15,13 @@ use Rattle.iri.specs.Targets.{sourceRefusal, targetRefusal, targetRefusalFrom}
 use Rattle.model.specs.Sets.{Bytes, Key, held, lookup}
 use Rattle.model.specs.Fields.{when, first, sourceField, idField, relationshipTypeField, modeField, targetField, relationshipFields}
 use Rattle.model.specs.Package.{State, Relationship, relationshipLimit, relationshipKey, keyOfRelationship}
-use Rattle.model.specs.Calls.{Changes, PutRelationship, DropRelationship, refused, noRoom, putRelationshipRefusal, dropRelationshipRefusal, withRelationships}
+use Rattle.model.specs.Calls.{Changes, PutRelationship, DropRelationship, noRoom, putRelationshipRefusal, dropRelationshipRefusal, withRelationships}
 use Rattle.model.proofs.Refusals.{all-none, unmet}
 use Rattle.store.specs.Rows.{Row, makeRow, rowSize}
 use Rattle.store.specs.Packages.{isPackage}
 use Rattle.contract.specs.Rows.{second, keyIn, relationshipTag, relationshipRow}
+use Rattle.contract.specs.Answers.{ofDid}
+use Rattle.contract.specs.declared.answers.Did.the-variants.{Refused}
 use Rattle.contract.specs.Entries.{Entered, Dropped}
 use Rattle.contract.specs.Ran.{Ran}
 use Rattle.contract.proofs.Rans.{ran-changed, field-refused}
@@ -148,7 +150,7 @@ module _ (s i v : Bytes) (m : ℕ) (t : Bytes) where
 -- EACH WAY OUT
 module _ (p : List ℕ) (o : isPackage p ≡ true) (s i : Bytes) where
   module _ (k : ℕ) (ek : k ≡ first (sourceField s ∷ idField i ∷ [])) where
-    pub drop-refused : (k ≡ 0 → ⊥) → Ran (Changes (DropRelationship s i)) p (refused k) p
+    pub drop-refused : (k ≡ 0 → ⊥) → Ran (Changes (DropRelationship s i)) p (ofDid (Refused k)) p
     drop-refused z = field-refused p o (DropRelationship s i) k z (λ S. drop-fields S s i k (sym ek) z)
 
     pub drop-ran : k ≡ 0 → (a : Answer) (q : List ℕ) → length q ≡ length p → Dropped p (keyIn 3 s 0 i) a q → Ran (Changes (DropRelationship s i)) p a q
@@ -158,7 +160,7 @@ module _ (p : List ℕ) (o : isPackage p ≡ true) (s i : Bytes) where
         (subst (λ (j : Key). Dropped p j a q) (key-is s i) w) (drop-held S s i (sym ek ∙ z)) refl)
 
   module _ (v : Bytes) (m : ℕ) (t : Bytes) (k : ℕ) (ek : k ≡ relationshipFields s i v m t) where
-    pub put-refused : (k ≡ 0 → ⊥) → Ran (Changes (PutRelationship s i v m t)) p (refused k) p
+    pub put-refused : (k ≡ 0 → ⊥) → Ran (Changes (PutRelationship s i v m t)) p (ofDid (Refused k)) p
     put-refused z = field-refused p o (PutRelationship s i v m t) k z (λ S. put-fields s i v m t S k (sym ek) z)
 
     pub put-ran : k ≡ 0 → (a : Answer) (q : List ℕ) → length q ≡ length p → Entered p relationshipLimit (makeRow (relationshipTag + m) s i v t) a q → Ran (Changes (PutRelationship s i v m t)) p a q

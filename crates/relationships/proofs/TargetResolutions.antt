@@ -21,6 +21,7 @@ use Rattle.iri.specs.Pack.{unfragmented, packIri}
 use Rattle.iri.specs.Scratch.{Fitted, Reached}
 use Rattle.iri.proofs.Lists.{length-take-few}
 use Rattle.iri.proofs.Judging.{package-few}
+use Rattle.iri.proofs.Sending.{refusing-is}
 use Rattle.model.specs.Sets.{Bytes, lookup}
 use Rattle.model.specs.Fields.{when, first, sourceField, idField, packageField}
 use Rattle.model.specs.Package.{State, Relationship, relationshipKey, keyOfRelationship, group, isPart}
@@ -211,7 +212,9 @@ module _ (b : List ℕ) (i : ℕ) (li : i < countOf b) (base out t : Bytes) (et 
 module _ (p : List ℕ) (o : isPackage p ≡ true) (s i base out : Bytes) (k : ℕ) (ek : k ≡ first (sourceField s ∷ idField i ∷ packageField base ∷ [])) where
   pub resolve-refused : (k ≡ 0 → ⊥) → Ran (Prints (ResolveRelationship s i base) out) p (ofResolution (resolution.Refused k) out) p
   unfolding printed filled
-  resolve-refused z = wrote p o (ResolveRelationship s i base) out (answer k (0 ∷ 0 ∷ 0 ∷ []) out) (subst Numbered (sym ek) (resolve-fields-numbered s i base)) (λ _. refl) (λ S h. rw (← ek, ne-eqb k 0 z))
+  resolve-refused z =
+      rw (refusing-is k z (answer k (0 ∷ 0 ∷ 0 ∷ []) out))
+      (wrote p o (ResolveRelationship s i base) out (answer k (0 ∷ 0 ∷ 0 ∷ []) out) (subst Numbered (sym ek) (resolve-fields-numbered s i base)) (λ _. refl) (λ S h. rw (← ek, ne-eqb k 0 z)))
 
   module _ (z : k ≡ 0) where
     pub package-size : length base ≤ 255

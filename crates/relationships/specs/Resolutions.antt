@@ -4,7 +4,7 @@ use Prim.Native.Nat.{ℕ}
 use mathlib.Core.Path.{_≡_}
 use mathlib.Core.List.{List, [], _∷_}
 use mathlib.Core.Option.{some}
-use Rattle.iri.specs.Answers.{Answer, answer}
+use Rattle.iri.specs.Answers.{Answer, answer, refusing}
 use Rattle.iri.specs.Targets.{resolvePath}
 use Rattle.iri.specs.Pack.{packIri}
 use Rattle.model.specs.Package.{Relationship, State, group, isPart}
@@ -22,7 +22,7 @@ abbrev pub ofResolution : Resolution → List ℕ → Answer
 ofResolution (Internal n h) out = answer 0 (n ∷ 0 ∷ flag h ∷ []) out
 ofResolution (External n) out = answer 0 (n ∷ 1 ∷ 0 ∷ []) out
 ofResolution (Short n) out = answer 3 (n ∷ 0 ∷ 0 ∷ []) out
-ofResolution (Refused k) out = answer k (0 ∷ 0 ∷ 0 ∷ []) out
+ofResolution (Refused k) out = refusing k (answer k (0 ∷ 0 ∷ 0 ∷ []) out)
 
 -- a is the answer for an internal target of that source, in the buffer b
 pub record LedTo (b source target base out : List ℕ) (a : Answer) : Type 0 where

@@ -10,8 +10,10 @@ use lib.Seq.{slice, take-append-seam}
 use borrow.Author.Tests.{eq-eqb, ne-eqb}
 use Rattle.chars.specs.Bytes.{ascii}
 use Rattle.chars.specs.Folding.{fold}
-use Rattle.iri.specs.Answers.{Answer, answer}
+use Rattle.iri.specs.Answers.{Answer, answer, ofWritten}
 use Rattle.iri.specs.Targets.{sourceRefusal}
+use Rattle.iri.specs.declared.writing.Written.the-variants.{Refused}
+use Rattle.iri.proofs.Sending.{refusing-is}
 use Rattle.model.specs.Sets.{Bytes, joined}
 use Rattle.model.specs.Places.{firstWhere, bound}
 use Rattle.model.specs.Package.{Relationship, State, keyOfRelationship}
@@ -116,9 +118,11 @@ module _ (b : List ℕ) (o : isPackage b ≡ true) where
 
   -- k is the refusal of the source
   module _ (s out : Bytes) (k : ℕ) (ek : k ≡ sourceRefusal s) where
-    pub relationships-refused : (k ≡ 0 → ⊥) → Ran (Prints (WriteRelationships s) out) b (answer k (0 ∷ []) out) b
+    pub relationships-refused : (k ≡ 0 → ⊥) → Ran (Prints (WriteRelationships s) out) b (ofWritten (Refused k) out) b
     unfolding printed
-    relationships-refused z = text-refused b o (WriteRelationships s) refl out k (subst Numbered (sym ek) (source-field-numbered s)) (λ S h. rw (← ek, ne-eqb k 0 z))
+    relationships-refused z =
+        rw (refusing-is k z (answer k (0 ∷ []) out))
+        (text-refused b o (WriteRelationships s) refl out k (subst Numbered (sym ek) (source-field-numbered s)) (λ S h. rw (← ek, ne-eqb k 0 z)))
 
     pub relationships-written : k ≡ 0 → (f t : ℕ) → Bounded b (keyIn 3 s 0 []) f → Bounded b (keyIn 3 s 0 (tilde ∷ [])) t → (a : Answer)
         → Answered b f t (ascii "<Relationships xmlns=\"http://schemas.openxmlformats.org/package/2006/relationships\">\n") (ascii "</Relationships>\n") out a

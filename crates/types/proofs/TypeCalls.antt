@@ -18,6 +18,8 @@ use Rattle.store.specs.Layout.{countOf, slotCount}
 use Rattle.store.specs.Rows.{Row, makeRow, rowSize}
 use Rattle.store.specs.Packages.{isPackage}
 use Rattle.contract.specs.Rows.{second, keyIn, defaultTag, overrideTag, defaultRow, overrideRow}
+use Rattle.contract.specs.Answers.{ofDid}
+use Rattle.contract.specs.declared.answers.Did.the-variants.{Refused}
 use Rattle.contract.specs.Holds.{Holds}
 use Rattle.contract.specs.Entries.{Entered, Dropped}
 use Rattle.contract.specs.Ran.{Ran}
@@ -146,7 +148,7 @@ overrides = record {
 
 -- EACH WAY OUT; y is the test of the text, z that of the type
 module _ (K : Kind) (p : List ℕ) (o : isPackage p ≡ true) (s : Bytes) (y : Bool) (ey : y ≡ K .fit s) where
-  pub drop-refused : not y ≡ true → Ran (Changes (K .dropping s)) p (refused (K .refusal)) p
+  pub drop-refused : not y ≡ true → Ran (Changes (K .dropping s)) p (ofDid (Refused (K .refusal))) p
   drop-refused h =
       field-refused p o (K .dropping s) (K .refusal) (K .met)
       (λ S.
@@ -162,7 +164,7 @@ module _ (K : Kind) (p : List ℕ) (o : isPackage p ≡ true) (s : Bytes) (y : B
       let r = when (noRoom (K .limit) (length (K .own S)) (length s + length v) S) 15 in
       K .puts S s v ∙ ap (λ (b : Bool). first (first (when (not b) (K .refusal) ∷ typeField v ∷ []) ∷ h ∷ r ∷ [])) e ∙ ap (λ (c : Bool). first (first (when (not b) (K .refusal) ∷ when (not c) 7 ∷ []) ∷ h ∷ r ∷ [])) f
 
-  pub put-refused : (v : Bytes) → not y ≡ true → Ran (Changes (K .putting s v)) p (refused (K .refusal)) p
+  pub put-refused : (v : Bytes) → not y ≡ true → Ran (Changes (K .putting s v)) p (ofDid (Refused (K .refusal))) p
   put-refused v h =
       field-refused p o (K .putting s v) (K .refusal) (K .met)
       (λ S.

@@ -1,6 +1,6 @@
 -- The worked lists, computed on the definitions.
 -- Assumes nothing.
-use Prim.Native.Nat.{ℕ, _+_, _≤_, _<_}
+use Prim.Native.Nat.{ℕ, zero, suc, _+_, _≤_}
 use Prim.Native.Char.{code}
 use mathlib.Core.Path.{_≡_, refl, sym, ap, _∙_}
 use mathlib.Core.List.{List, [], _∷_, _++_}
@@ -41,10 +41,11 @@ pub accepted : (C : ℕ) (o p : Bytes) (a : Answer) → C ≤ 232 → 33000 ≤ 
 unfolding startRefusal
 accepted C o p a k h r = ap (λ (x : Answer). x .number) (r .begun .0 (rw (le-ltb 1000000 C (omega arith), le-ltb (length o) (C + 32768) (omega arith))) .0)
 
--- a length above 0 is no refusal's value
-pub found-length : (r : Found) (n : ℕ) → 0 < n → ofFound r ≡ answer 0 (n ∷ []) [] → r ≡ Length n
-found-length (Length m) n h e = ap Length (ap (λ (a : Answer). getD (a .values) 0 0) e)
-found-length (Refused k) n h e = absurd (omega (arith, ap (λ (a : Answer). getD (a .values) 0 0) e))
+-- a length is no refusal
+pub found-length : (r : Found) (n : ℕ) → ofFound r ≡ answer 0 (n ∷ []) [] → r ≡ Length n
+found-length (Length m) n e = ap Length (ap (λ (a : Answer). getD (a .values) 0 0) e)
+found-length (Refused zero) n e = absurd (omega (arith, ap (λ (a : Answer). a .number) e))
+found-length (Refused (suc k)) n e = absurd (omega (arith, ap (λ (a : Answer). a .number) e))
 
 -- the marked example of resolving: the calls after the start, but for the last one, and the last one
 abbrev pub leading : Bytes → List Call
@@ -72,11 +73,12 @@ unfolding answers after
 led-last room types out h = ap (filled 3 out) (led-printed room (length out) types) ∙ filled-fits ledText out (0 ∷ 1 ∷ []) h
 
 -- the last byte of what was written
-output-is : (r : Resolution) (o : Bytes) → (ofResolution r o) .output ≡ o
-output-is (resolution.Internal n h) o = refl
-output-is (resolution.External n) o = refl
-output-is (resolution.Short n) o = refl
-output-is (resolution.Refused k) o = refl
+output-is : (r : Resolution) (o : Bytes) → (ofResolution r o) .number ≡ 0 → (ofResolution r o) .output ≡ o
+output-is (resolution.Internal n h) o e = refl
+output-is (resolution.External n) o e = refl
+output-is (resolution.Short n) o e = refl
+output-is (resolution.Refused zero) o e = absurd (omega arith)
+output-is (resolution.Refused (suc k)) o e = refl
 
 pub led-end : (r : Resolution) (out written : Bytes) → ofResolution r written ≡ ledTo out → getD written 47 0 ≡ code "l"
-led-end r out written e = ap (λ (o : Bytes). getD o 47 0) (sym (output-is r written) ∙ ap (λ (a : Answer). a .output) e)
+led-end r out written e = ap (λ (o : Bytes). getD o 47 0) (sym (output-is r written (ap (λ (a : Answer). a .number) e)) ∙ ap (λ (a : Answer). a .output) e)

@@ -51,7 +51,7 @@ same-length : tie.Need-same-length
 same-length c = search needs
 
 returns : tie.Need-returns
-returns c = let k = every-run _ _ _ _ _ _ (c .before .before .before .before .before .before .before .before .before .before .before .before .before .before .before .before .before .before .before .before .before .before .before .start .ensures) (accepted 100 _ _ _ (omega arith) (c .before .before .before .before .before .before .before .before .before .before .before .before .before .before .before .before .before .before .before .before .before .before .before .before .before .before .pre) (c .before .before .before .before .before .before .before .before .before .before .before .before .before .before .before .before .before .before .before .before .before .before .before .start .ensures)) (more (c .before .before .before .before .before .before .before .before .before .before .before .before .before .before .before .before .before .put-item .ensures) (more (c .before .before .before .before .before .before .before .before .before .before .before .put-item2 .ensures) (more (c .before .before .before .before .before .put-item3 .ensures) (more (c .find-item .ensures) none)))) in found-length (c .find-item .result) 5 (omega arith) (ap (λ (l : List Answer). getD l 3 done) (k .answered) ∙ worked-last _)
+returns c = let k = every-run _ _ _ _ _ _ (c .before .before .before .before .before .before .before .before .before .before .before .before .before .before .before .before .before .before .before .before .before .before .before .start .ensures) (accepted 100 _ _ _ (omega arith) (c .before .before .before .before .before .before .before .before .before .before .before .before .before .before .before .before .before .before .before .before .before .before .before .before .before .before .pre) (c .before .before .before .before .before .before .before .before .before .before .before .before .before .before .before .before .before .before .before .before .before .before .before .start .ensures)) (more (c .before .before .before .before .before .before .before .before .before .before .before .before .before .before .before .before .before .put-item .ensures) (more (c .before .before .before .before .before .before .before .before .before .before .before .put-item2 .ensures) (more (c .before .before .before .before .before .put-item3 .ensures) (more (c .find-item .ensures) none)))) in found-length (c .find-item .result) 5 (ap (λ (l : List Answer). getD l 3 done) (k .answered) ∙ worked-last _)
 
 pub worked-spec : {M : Type 1} → statement M
 worked-spec =

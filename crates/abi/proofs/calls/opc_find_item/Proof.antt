@@ -1,3 +1,4 @@
+use Rattle.abi.proofs.Handing.{replied}
 use borrow.Author.Needs.{needs}
 use Rattle.abi.proofs.calls.opc_find_item.Statement.{statement}
 use Rattle.abi.proofs.calls.opc_find_item.Tie as tie
@@ -9,7 +10,7 @@ of-found-requires : tie.Need-of-found-requires
 of-found-requires c κs = search needs
 
 returns : tie.Need-returns
-returns c = rw (c .of-found .ensures) (c .before .find-item .ensures)
+returns c = replied _ _ _ _ _ _ (c .before .find-item .ensures) (c .of-found .ensures)
 
 pub opc-find-item-spec : {M : Type 1} → statement M
 opc-find-item-spec = tie.close (tie.spec find-item-requires of-found-requires returns)

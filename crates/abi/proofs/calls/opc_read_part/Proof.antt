@@ -1,3 +1,4 @@
+use Rattle.abi.proofs.Handing.{replied}
 use borrow.Author.Needs.{needs}
 use Rattle.abi.proofs.calls.opc_read_part.Statement.{statement}
 use Rattle.abi.proofs.calls.opc_read_part.Tie as tie
@@ -12,7 +13,7 @@ same-length : tie.Need-same-length
 same-length c = search needs
 
 returns : tie.Need-returns
-returns c = rw (c .of-written .ensures) (c .before .before .before .read-part .ensures)
+returns c = replied _ _ _ _ _ _ (c .before .before .before .read-part .ensures) (c .of-written .ensures _)
 
 pub opc-read-part-spec : {M : Type 1} → statement M
 opc-read-part-spec =

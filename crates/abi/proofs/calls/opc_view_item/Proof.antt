@@ -10,7 +10,7 @@ of-span-requires : tie.Need-of-span-requires
 of-span-requires c κs = search needs
 
 returns : tie.Need-returns
-returns c = rw (c .of-span .ensures) (record { accepted = refl; values = refl; viewed = c .before .view-place .ensures })
+returns c = rw (c .of-span .ensures) (record { reply = refl; viewed = c .before .view-place .ensures })
 
 pub opc-view-item-spec : {M : Type 1} → statement M
 opc-view-item-spec = tie.close (tie.spec view-place-requires of-span-requires returns)

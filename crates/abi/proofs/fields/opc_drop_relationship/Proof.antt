@@ -1,3 +1,4 @@
+use Rattle.abi.proofs.Handing.{replied}
 use borrow.Author.Needs.{needs}
 use Rattle.abi.proofs.fields.opc_drop_relationship.Statement.{statement}
 use Rattle.abi.proofs.fields.opc_drop_relationship.Tie as tie
@@ -12,7 +13,7 @@ same-length : tie.Need-same-length
 same-length c = search needs
 
 returns : tie.Need-returns
-returns c = rw (c .of-did .ensures) (c .before .before .before .drop-relationship .ensures)
+returns c = replied _ _ _ _ _ _ (c .before .before .before .drop-relationship .ensures) (c .of-did .ensures)
 
 pub opc-drop-relationship-spec : {M : Type 1} → statement M
 opc-drop-relationship-spec = tie.close (tie.spec drop-relationship-requires of-did-requires same-length returns)

@@ -1,3 +1,4 @@
+use Rattle.abi.proofs.Handing.{replied}
 use borrow.Author.Needs.{needs}
 use Rattle.abi.proofs.fields.opc_media_type.Statement.{statement}
 use Rattle.abi.proofs.fields.opc_media_type.Tie as tie
@@ -12,7 +13,7 @@ same-length : tie.Need-same-length
 same-length c = search needs
 
 returns : tie.Need-returns
-returns c = rw (c .of-written .ensures) (c .before .before .before .media-type .ensures)
+returns c = replied _ _ _ _ _ _ (c .before .before .before .media-type .ensures) (c .of-written .ensures _)
 
 pub opc-media-type-spec : {M : Type 1} → statement M
 opc-media-type-spec = tie.close (tie.spec media-type-requires of-written-requires same-length returns)

@@ -1,3 +1,4 @@
+use Rattle.abi.proofs.Handing.{replied}
 use borrow.Author.Needs.{needs}
 use Rattle.abi.proofs.fields.opc_resolve_relationship.Statement.{statement}
 use Rattle.abi.proofs.fields.opc_resolve_relationship.Tie as tie
@@ -12,7 +13,7 @@ same-length : tie.Need-same-length
 same-length c = search needs
 
 returns : tie.Need-returns
-returns c = rw (c .of-resolution .ensures) (c .before .before .before .resolve-relationship .ensures)
+returns c = replied _ _ _ _ _ _ (c .before .before .before .resolve-relationship .ensures) (c .of-resolution .ensures _)
 
 pub opc-resolve-relationship-spec : {M : Type 1} → statement M
 opc-resolve-relationship-spec =

@@ -1,3 +1,5 @@
+use Rattle.iri.specs.Pack.{compose}
+use Rattle.abi.proofs.Handing.{written-handed}
 use borrow.Author.Needs.{needs}
 use Rattle.abi.proofs.iris.opc_compose_pack_iri.Statement.{statement}
 use Rattle.abi.proofs.iris.opc_compose_pack_iri.Tie as tie
@@ -12,7 +14,9 @@ same-length : tie.Need-same-length
 same-length c = search needs
 
 returns : tie.Need-returns
-returns c = rw (c .of-written .ensures) (c .before .before .before .compose .ensures)
+returns c =
+    let given = c .before .before .before .before .before .before .before .before .args in
+    written-handed (compose (given .base .now) (given .name .now)) (given .out .now) _ _ _ (c .before .before .before .compose .ensures) (c .of-written .ensures _)
 
 pub opc-compose-pack-iri-spec : {M : Type 1} → statement M
 opc-compose-pack-iri-spec =

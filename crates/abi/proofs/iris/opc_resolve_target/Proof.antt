@@ -1,3 +1,5 @@
+use Rattle.iri.specs.Targets.{resolveTarget}
+use Rattle.abi.proofs.Handing.{written-handed}
 use borrow.Author.Needs.{needs}
 use Rattle.abi.proofs.iris.opc_resolve_target.Statement.{statement}
 use Rattle.abi.proofs.iris.opc_resolve_target.Tie as tie
@@ -12,7 +14,9 @@ same-length : tie.Need-same-length
 same-length c = search needs
 
 returns : tie.Need-returns
-returns c = rw (c .of-written .ensures) (c .before .before .before .resolve-target .ensures)
+returns c =
+    let given = c .before .before .before .before .before .before .before .before .args in
+    written-handed (resolveTarget (given .source .now) (given .target .now)) (given .out .now) _ _ _ (c .before .before .before .resolve-target .ensures) (c .of-written .ensures _)
 
 pub opc-resolve-target-spec : {M : Type 1} → statement M
 opc-resolve-target-spec =

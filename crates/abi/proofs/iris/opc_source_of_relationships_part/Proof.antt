@@ -1,3 +1,5 @@
+use Rattle.iri.specs.Relationships.{sourcePart}
+use Rattle.abi.proofs.Handing.{written-handed}
 use borrow.Author.Needs.{needs}
 use Rattle.abi.proofs.iris.opc_source_of_relationships_part.Statement.{statement}
 use Rattle.abi.proofs.iris.opc_source_of_relationships_part.Tie as tie
@@ -12,7 +14,9 @@ same-length : tie.Need-same-length
 same-length c = search needs
 
 returns : tie.Need-returns
-returns c = rw (c .of-written .ensures) (c .before .before .before .source-of .ensures)
+returns c =
+    let given = c .before .before .before .before .before .before .before .args in
+    written-handed (sourcePart (given .name .now)) (given .out .now) _ _ _ (c .before .before .before .source-of .ensures) (c .of-written .ensures _)
 
 pub opc-source-of-relationships-part-spec : {M : Type 1} → statement M
 opc-source-of-relationships-part-spec =

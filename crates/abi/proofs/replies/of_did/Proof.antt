@@ -1,3 +1,7 @@
+use mathlib.Core.Path.{refl, ap}
+use mathlib.Core.List.{[], _∷_}
+use Rattle.contract.specs.Answers.{ofDid}
+use Rattle.abi.proofs.Handing.{hands, hands-refusal}
 use borrow.Author.Needs.{needs}
 use Rattle.abi.proofs.replies.of_did.Statement.{statement}
 use Rattle.abi.proofs.replies.of_did.Tie as tie
@@ -15,10 +19,10 @@ one-requires-2 : tie.Need-one-requires-2
 one-requires-2 c κs = search needs
 
 returns : tie.Need-returns
-returns c = rw (c .one .ensures, c .before .enum-told .given .1)
+returns c = λ z. hands _ _ _ _ _ (c .one .ensures) refl refl (ap ofDid (c .before .enum-told .given .1))
 
 returns-2 : tie.Need-returns-2
-returns-2 c = rw (c .one2 .ensures, c .before .before .d .given .1)
+returns-2 c = λ z. hands-refusal (c .before .before .d .given .0 .0) (0 ∷ []) _ _ _ (c .one2 .ensures) (ap ofDid (c .before .before .d .given .1)) z
 
 pub of-did-spec : {M : Type 1} → statement M
 of-did-spec =

@@ -1,3 +1,7 @@
+use mathlib.Core.Path.{refl, ap}
+use mathlib.Core.List.{[], _∷_}
+use Rattle.contract.specs.Answers.{ofFound}
+use Rattle.abi.proofs.Handing.{hands, hands-refusal}
 use borrow.Author.Needs.{needs}
 use Rattle.abi.proofs.replies.of_found.Statement.{statement}
 use Rattle.abi.proofs.replies.of_found.Tie as tie
@@ -15,10 +19,10 @@ one-requires-2 : tie.Need-one-requires-2
 one-requires-2 c κs = search needs
 
 returns : tie.Need-returns
-returns c = rw (c .one .ensures, c .before .before .d .given .1)
+returns c = λ z. hands _ _ _ _ _ (c .one .ensures) refl refl (ap ofFound (c .before .before .d .given .1))
 
 returns-2 : tie.Need-returns-2
-returns-2 c = rw (c .one2 .ensures, c .before .before .d2 .given .1)
+returns-2 c = λ z. hands-refusal (c .before .before .d2 .given .0 .0) (0 ∷ []) _ _ _ (c .one2 .ensures) (ap ofFound (c .before .before .d2 .given .1)) z
 
 pub of-found-spec : {M : Type 1} → statement M
 of-found-spec =

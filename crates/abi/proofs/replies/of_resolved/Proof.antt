@@ -1,3 +1,8 @@
+use mathlib.Core.Path.{refl, ap}
+use mathlib.Core.List.{[], _∷_}
+use Rattle.iri.specs.Pack.{ofResolved}
+use Rattle.iri.specs.declared.pack.Resolved.{Resolved}
+use Rattle.abi.proofs.Handing.{hands, hands-refusal}
 use borrow.Author.Needs.{needs}
 use Rattle.abi.proofs.replies.of_resolved.Statement.{statement}
 use Rattle.abi.proofs.replies.of_resolved.Tie as tie
@@ -21,13 +26,13 @@ two-requires-3 : tie.Need-two-requires-3
 two-requires-3 c κs = search needs
 
 returns : tie.Need-returns
-returns c = λ out. rw (c .two .ensures, c .before .before .w .given .1)
+returns c = λ out z. hands _ _ _ _ _ (c .two .ensures) refl refl (ap (λ (x : Resolved). ofResolved x out) (c .before .before .w .given .1))
 
 returns-2 : tie.Need-returns-2
-returns-2 c = λ out. rw (c .two2 .ensures, c .before .before .w2 .given .1)
+returns-2 c = λ out z. hands _ _ _ _ _ (c .two2 .ensures) refl refl (ap (λ (x : Resolved). ofResolved x out) (c .before .before .w2 .given .1))
 
 returns-3 : tie.Need-returns-3
-returns-3 c = λ out. rw (c .two3 .ensures, c .before .before .w3 .given .1)
+returns-3 c = λ out z. hands-refusal (c .before .before .w3 .given .0 .0) (0 ∷ 0 ∷ []) _ _ _ (c .two3 .ensures) (ap (λ (x : Resolved). ofResolved x out) (c .before .before .w3 .given .1)) z
 
 pub of-resolved-spec : {M : Type 1} → statement M
 of-resolved-spec =

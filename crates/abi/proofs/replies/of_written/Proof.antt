@@ -1,3 +1,8 @@
+use mathlib.Core.Path.{refl, ap}
+use mathlib.Core.List.{[], _∷_}
+use Rattle.iri.specs.Answers.{ofWritten}
+use Rattle.iri.specs.declared.writing.Written.{Written}
+use Rattle.abi.proofs.Handing.{hands, hands-refusal}
 use borrow.Author.Needs.{needs}
 use Rattle.abi.proofs.replies.of_written.Statement.{statement}
 use Rattle.abi.proofs.replies.of_written.Tie as tie
@@ -21,13 +26,13 @@ one-requires-3 : tie.Need-one-requires-3
 one-requires-3 c κs = search needs
 
 returns : tie.Need-returns
-returns c = λ out. rw (c .one .ensures, c .before .before .w .given .1)
+returns c = λ out z. hands _ _ _ _ _ (c .one .ensures) refl refl (ap (λ (x : Written). ofWritten x out) (c .before .before .w .given .1))
 
 returns-2 : tie.Need-returns-2
-returns-2 c = λ out. rw (c .one2 .ensures, c .before .before .w2 .given .1)
+returns-2 c = λ out z. hands _ _ _ _ _ (c .one2 .ensures) refl refl (ap (λ (x : Written). ofWritten x out) (c .before .before .w2 .given .1))
 
 returns-3 : tie.Need-returns-3
-returns-3 c = λ out. rw (c .one3 .ensures, c .before .before .w3 .given .1)
+returns-3 c = λ out z. hands-refusal (c .before .before .w3 .given .0 .0) (0 ∷ []) _ _ _ (c .one3 .ensures) (ap (λ (x : Written). ofWritten x out) (c .before .before .w3 .given .1)) z
 
 pub of-written-spec : {M : Type 1} → statement M
 of-written-spec =

@@ -34,7 +34,7 @@ is-unfragmented-requires : tie.Need-is-unfragmented-requires
 is-unfragmented-requires c κs = search needs
 
 returns : tie.Need-returns
-returns c = located-refused (resolvePack (c .before .before .before .before .before .before .before .before .before .args .s .now)) 9 (c .before .before .before .before .before .before .before .before .before .args .out .now) (pack-refused (c .before .before .before .before .before .before .before .before .before .args .s .now) _ _ (c .before .before .before .before .before .before .before .before .before .pre) _ _ (c .before .before .before .before .decode .ensures) (c .before .before .before .before .decode .kept .1 .0) _ (c .before .is-unfragmented .ensures) (c .if1 .taken))
+returns c = located-refused (resolvePack (c .before .before .before .before .before .before .before .before .before .args .s .now)) 9 (c .before .before .before .before .before .before .before .before .before .args .out .now) (omega arith) (pack-refused (c .before .before .before .before .before .before .before .before .before .args .s .now) _ _ (c .before .before .before .before .before .before .before .before .before .pre) _ _ (c .before .before .before .before .decode .ensures) (c .before .before .before .before .decode .kept .1 .0) _ (c .before .is-unfragmented .ensures) (c .if1 .taken))
 
 sub-part-len : tie.Need-sub-part-len
 sub-part-len c = search needs

@@ -1,3 +1,4 @@
+use native.Mathlib.Omega.{arith}
 use borrow.Author.Needs.{needs}
 use Rattle.iri.specs.Pack.{resolvePack}
 use Rattle.iri.proofs.Locating.{placed-at, located-refused, placed-none}
@@ -23,7 +24,7 @@ returns : tie.Need-returns
 returns c = search needs
 
 returns-2 : tie.Need-returns-2
-returns-2 c = located-refused (resolvePack (c .before .before .before .before .before .args .s .now)) 9 (c .before .before .before .before .before .args .out .now) (placed-none (c .before .before .before .before .before .args .s .now) _ (c .enum-told .given .1) (c .before .before .locate .ensures))
+returns-2 c = located-refused (resolvePack (c .before .before .before .before .before .args .s .now)) 9 (c .before .before .before .before .before .args .out .now) (omega arith) (placed-none (c .before .before .before .before .before .args .s .now) _ (c .enum-told .given .1) (c .before .before .locate .ensures))
 
 pub resolve-pack-spec : {M : Type 1} → statement M
 resolve-pack-spec =

@@ -2,6 +2,7 @@ use Rattle.iri.specs.References.{resolve}
 use Rattle.iri.specs.Targets.{resolveReference}
 use Rattle.iri.proofs.Sending.{answer-refused, fitted-short, fitted-bytes}
 use Rattle.iri.proofs.Transforms.{reference-base, reference-no, reference-text, judged-few}
+use native.Mathlib.Omega.{arith}
 use borrow.Author.Needs.{needs}
 use Rattle.iri.proofs.references.resolve_reference.Statement.{statement}
 use Rattle.iri.proofs.references.resolve_reference.Tie as tie
@@ -10,13 +11,13 @@ is-package-iri-requires : tie.Need-is-package-iri-requires
 is-package-iri-requires c κs = search needs
 
 returns : tie.Need-returns
-returns c = answer-refused (resolveReference (c .before .before .before .before .before .args .base .now) (c .before .before .before .before .before .args .reference .now)) 9 (c .before .before .before .before .before .args .out .now) (reference-base (c .before .before .before .before .before .args .base .now) (c .before .before .before .before .before .args .reference .now) _ (c .before .is-package-iri .ensures) (c .if1 .taken))
+returns c = answer-refused (resolveReference (c .before .before .before .before .before .args .base .now) (c .before .before .before .before .before .args .reference .now)) 9 (c .before .before .before .before .before .args .out .now) (omega arith) (reference-base (c .before .before .before .before .before .args .base .now) (c .before .before .before .before .before .args .reference .now) _ (c .before .is-package-iri .ensures) (c .if1 .taken))
 
 is-iri-requires : tie.Need-is-iri-requires
 is-iri-requires c κs = search needs
 
 returns-2 : tie.Need-returns-2
-returns-2 c = answer-refused (resolveReference (c .before .before .before .before .before .before .before .args .base .now) (c .before .before .before .before .before .before .before .args .reference .now)) 9 (c .before .before .before .before .before .before .before .args .out .now) (reference-no (c .before .before .before .before .before .before .before .args .base .now) (c .before .before .before .before .before .before .before .args .reference .now) _ (c .before .before .before .is-package-iri .ensures) (c .before .before .if1 .left) _ (c .before .is-iri .ensures) (c .if2 .taken))
+returns-2 c = answer-refused (resolveReference (c .before .before .before .before .before .before .before .args .base .now) (c .before .before .before .before .before .before .before .args .reference .now)) 9 (c .before .before .before .before .before .before .before .args .out .now) (omega arith) (reference-no (c .before .before .before .before .before .before .before .args .base .now) (c .before .before .before .before .before .before .before .args .reference .now) _ (c .before .before .before .is-package-iri .ensures) (c .before .before .if1 .left) _ (c .before .is-iri .ensures) (c .if2 .taken))
 
 put-reference-requires : tie.Need-put-reference-requires
 put-reference-requires c κs = judged-few (c .before .before .before .before .before .before .before .before .args .base .now) (c .before .before .before .before .before .before .before .before .args .reference .now) _ (c .before .before .before .before .is-package-iri .ensures) (c .before .before .before .if1 .left) _ (c .before .before .is-iri .ensures) (c .before .if2 .left)

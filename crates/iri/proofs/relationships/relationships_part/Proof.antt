@@ -12,7 +12,7 @@ source-refusal-requires : tie.Need-source-refusal-requires
 source-refusal-requires c κs = search needs
 
 returns : tie.Need-returns
-returns c = answer-refused (relationshipsPart (c .before .before .before .before .args .s .now)) _ (c .before .before .before .before .args .out .now) (rels-no _ _ (c .before .source-refusal .ensures) (c .if1 .taken))
+returns c = answer-refused (relationshipsPart (c .before .before .before .before .args .s .now)) _ (c .before .before .before .before .args .out .now) (c .if1 .taken) (rels-no _ _ (c .before .source-refusal .ensures) (c .if1 .taken))
 
 slice-relend-prefix-put-relationships : tie.Need-slice-relend-prefix-put-relationships
 slice-relend-prefix-put-relationships c = search needs

@@ -61,7 +61,7 @@ source-refusal-requires : tie.Need-source-refusal-requires
 source-refusal-requires c κs = search needs
 
 returns : tie.Need-returns
-returns c = answer-refused (sourcePart (c .before .before .before .before .before .before .before .before .before .before .before .before .before .before .before .before .args .s .now)) 4 (c .before .before .before .before .before .before .before .before .before .before .before .before .before .before .before .before .args .out .now) (back-refused (c .before .before .before .before .before .before .before .before .before .before .before .before .before .before .before .before .args .s .now) (c .before .before .before .before .before .before .before .before .before .before .before .before .before .before .before .before .pre .0) _ (c .before .before .before .before .before .before .before .before .before .before .before .before .before .find-past .ensures) _ (c .before .before .before .before .before .before .before .before .before .before .before .find-past2 .ensures) (c .before .before .before .before .before .before .before .before .before .before .before .before .before .before .before .before .pre .1) _ _ _ _ _ (c .before .before .before .before .before .before .before .before .emit .ensures) (c .before .before .before .before .before .before .before .before .emit .kept .0) (c .before .before .before .before .emit2 .ensures) (c .before .before .before .before .emit2 .kept .0) refl _ (c .before .source-refusal .ensures) (c .if1 .taken))
+returns c = answer-refused (sourcePart (c .before .before .before .before .before .before .before .before .before .before .before .before .before .before .before .before .args .s .now)) 4 (c .before .before .before .before .before .before .before .before .before .before .before .before .before .before .before .before .args .out .now) (omega arith) (back-refused (c .before .before .before .before .before .before .before .before .before .before .before .before .before .before .before .before .args .s .now) (c .before .before .before .before .before .before .before .before .before .before .before .before .before .before .before .before .pre .0) _ (c .before .before .before .before .before .before .before .before .before .before .before .before .before .find-past .ensures) _ (c .before .before .before .before .before .before .before .before .before .before .before .find-past2 .ensures) (c .before .before .before .before .before .before .before .before .before .before .before .before .before .before .before .before .pre .1) _ _ _ _ _ (c .before .before .before .before .before .before .before .before .emit .ensures) (c .before .before .before .before .before .before .before .before .emit .kept .0) (c .before .before .before .before .emit2 .ensures) (c .before .before .before .before .emit2 .kept .0) refl _ (c .before .source-refusal .ensures) (c .if1 .taken))
 
 slice-aggregate-put-text : tie.Need-slice-aggregate-put-text
 slice-aggregate-put-text c = search needs

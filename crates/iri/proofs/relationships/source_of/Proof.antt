@@ -1,4 +1,5 @@
 use mathlib.Core.Path.{sym, _∙_}
+use native.Mathlib.Omega.{arith}
 use borrow.Author.Needs.{needs}
 use borrow.Author.Tests.{not-false}
 use Rattle.iri.specs.Relationships.{sourcePart}
@@ -8,13 +9,13 @@ use Rattle.iri.proofs.relationships.source_of.Statement.{statement}
 use Rattle.iri.proofs.relationships.source_of.Tie as tie
 
 returns : tie.Need-returns
-returns c = answer-refused (sourcePart (c .before .before .before .args .s .now)) 4 (c .before .before .before .args .out .now) (back-long (c .before .before .before .args .s .now) (c .if1 .taken))
+returns c = answer-refused (sourcePart (c .before .before .before .args .s .now)) 4 (c .before .before .before .args .out .now) (omega arith) (back-long (c .before .before .before .args .s .now) (c .if1 .taken))
 
 is-reserved-requires : tie.Need-is-reserved-requires
 is-reserved-requires c κs = search needs
 
 returns-2 : tie.Need-returns-2
-returns-2 c = answer-refused (sourcePart (c .before .before .before .before .before .args .s .now)) 4 (c .before .before .before .before .before .args .out .now) (back-no (c .before .before .before .before .before .args .s .now) _ (c .before .is-reserved .ensures) (c .if2 .taken))
+returns-2 c = answer-refused (sourcePart (c .before .before .before .before .before .args .s .now)) 4 (c .before .before .before .before .before .args .out .now) (omega arith) (back-no (c .before .before .before .before .before .args .s .now) _ (c .before .is-reserved .ensures) (c .if2 .taken))
 
 source-at-requires : tie.Need-source-at-requires
 source-at-requires c κs = (sym (c .before .before .is-reserved .ensures) ∙ not-false _ (c .before .if2 .left), c .before .before .before .if1 .left)

@@ -12,7 +12,7 @@ source-refusal-requires : tie.Need-source-refusal-requires
 source-refusal-requires c κs = search needs
 
 returns : tie.Need-returns
-returns c = answer-refused (resolveTarget (c .before .before .before .before .before .args .source .now) (c .before .before .before .before .before .args .target .now)) _ (c .before .before .before .before .before .args .out .now) (target-source (c .before .before .before .before .before .args .source .now) (c .before .before .before .before .before .args .target .now) _ (c .before .source-refusal .ensures) (c .if1 .taken))
+returns c = answer-refused (resolveTarget (c .before .before .before .before .before .args .source .now) (c .before .before .before .before .before .args .target .now)) _ (c .before .before .before .before .before .args .out .now) (c .if1 .taken) (target-source (c .before .before .before .before .before .args .source .now) (c .before .before .before .before .before .args .target .now) _ (c .before .source-refusal .ensures) (c .if1 .taken))
 
 slice-aggregate-resolve-name : tie.Need-slice-aggregate-resolve-name
 slice-aggregate-resolve-name c = search needs
@@ -39,7 +39,12 @@ returns-2 : tie.Need-returns-2
 returns-2 c = c .before .before .put-text .ensures ∙ ap (λ (o : Outcome). written o (c .before .before .before .before .before .before .before .before .before .before .before .before .before .before .before .before .args .out .now)) (sym (target-text (c .before .before .before .before .before .before .before .before .before .before .before .before .before .before .before .before .args .source .now) (c .before .before .before .before .before .before .before .before .before .before .before .before .before .before .before .before .args .target .now) (sym (c .before .before .before .before .before .before .before .before .before .before .before .before .source-refusal .ensures) ∙ c .before .before .before .before .before .before .before .before .before .before .before .if1 .left) ((named-length (c .before .before .before .before .before .before .before .before .before .before .before .before .before .before .before .before .args .source .now) (c .before .before .before .before .before .before .before .before .before .before .before .before .before .before .before .before .args .target .now) _ _ (c .before .before .before .before .before .before .before .before .before .resolve-name .ensures) _ (c .before .before .before .before .before .before .n .given .1)) .0) ∙ ap Text (sym ((named-length (c .before .before .before .before .before .before .before .before .before .before .before .before .before .before .before .before .args .source .now) (c .before .before .before .before .before .before .before .before .before .before .before .before .before .before .before .before .args .target .now) _ _ (c .before .before .before .before .before .before .before .before .before .resolve-name .ensures) _ (c .before .before .before .before .before .before .n .given .1)) .1))))
 
 returns-3 : tie.Need-returns-3
-returns-3 c = answer-refused (resolveTarget (c .before .before .before .before .before .before .before .before .before .before .before .args .source .now) (c .before .before .before .before .before .before .before .before .before .before .before .args .target .now)) _ (c .before .before .before .before .before .before .before .before .before .before .before .args .out .now) (target-refused (c .before .before .before .before .before .before .before .before .before .before .before .args .source .now) (c .before .before .before .before .before .before .before .before .before .before .before .args .target .now) (sym (c .before .before .before .before .before .before .before .source-refusal .ensures) ∙ c .before .before .before .before .before .before .if1 .left) _ ((named-refused (c .before .before .before .before .before .before .before .before .before .before .before .args .source .now) (c .before .before .before .before .before .before .before .before .before .before .before .args .target .now) _ _ (c .before .before .before .before .resolve-name .ensures) _ (c .before .n2 .given .1)) .0) ((named-refused (c .before .before .before .before .before .before .before .before .before .before .before .args .source .now) (c .before .before .before .before .before .before .before .before .before .before .before .args .target .now) _ _ (c .before .before .before .before .resolve-name .ensures) _ (c .before .n2 .given .1)) .1))
+returns-3 c =
+    let source = c .before .before .before .before .before .before .before .before .before .before .before .args .source .now in
+    let target = c .before .before .before .before .before .before .before .before .before .before .before .args .target .now in
+    let refused = named-refused source target _ _ (c .before .before .before .before .resolve-name .ensures) _ (c .before .n2 .given .1) in
+    answer-refused (resolveTarget source target) _ (c .before .before .before .before .before .before .before .before .before .before .before .args .out .now) (refused .1)
+    (target-refused source target (sym (c .before .before .before .before .before .before .before .source-refusal .ensures) ∙ c .before .before .before .before .before .before .if1 .left) _ (refused .0) (refused .1))
 
 pub resolve-target-spec : {M : Type 1} → statement M
 resolve-target-spec =
