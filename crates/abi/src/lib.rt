@@ -3,5 +3,7 @@ pub mod calls;
 pub mod fields;
 pub mod iris;
 pub mod judgements;
+mod making;
 pub mod replies;
+pub mod running;
 pub mod xml;

@@ -1,15 +1,19 @@
 -- Whether a script begins with a call: one law for each test of it.
 -- Assumes nothing.
 use Prim.Native.Nat.{_≤_, _<_}
-use mathlib.Core.Path.{_≡_}
-use mathlib.Core.Bool.{false}
+use mathlib.Core.Path.{_≡_, subst}
+use mathlib.Core.Bool.{true, false, _&&_}
 use native.Mathlib.Omega.{arith}
+use lib.Dec.{leb}
 use lib.ListN.{length}
-use borrow.Author.Tests.{le-leb, lt-leb}
+use borrow.Author.Tests.{le-leb, lt-leb, leb-true}
+use Rattle.chars.proofs.Bools.{and-left, and-right}
 use Rattle.model.specs.Sets.{Bytes}
 use Rattle.script.specs.Calls.{headSize, lastCode, codeOf, sizeOf, isCall}
 use Rattle.script.specs.declared.heads.Head.{Head}
-use Rattle.script.specs.Reading.{Headed, Called}
+use Rattle.script.specs.declared.heads.Next.{Next}
+use Rattle.script.specs.declared.heads.Next.the-variants as next
+use Rattle.script.specs.Reading.{Headed, Called, Read}
 
 module _ (s : Bytes) where
   pub no-head : length s < headSize → isCall s ≡ false
@@ -39,3 +43,18 @@ module _ (s : Bytes) where
           known = (k, f);
           is = rw (le-leb headSize (length s) l, le-leb (sizeOf s) (length s) (rw (e .d) at w), le-leb 1 (codeOf s) (rw (e .code) at k), le-leb (codeOf s) lastCode (rw (e .code) at f));
         }
+
+-- a call has a head, and lies in the script
+pub call-inside : (s : Bytes) → isCall s ≡ true → (headSize ≤ sizeOf s) × (sizeOf s ≤ length s)
+unfolding isCall
+call-inside s e =
+    let l : (leb headSize (length s) && leb (sizeOf s) (length s) && leb 1 (codeOf s)) ≡ true = and-left _ (leb (codeOf s) lastCode) e in
+    let m : (leb headSize (length s) && leb (sizeOf s) (length s)) ≡ true = and-left _ (leb 1 (codeOf s)) l in
+    (omega arith, leb-true (sizeOf s) (length s) (and-right (leb headSize (length s)) (leb (sizeOf s) (length s)) m))
+
+-- what was read
+pub read-nothing : (s : Bytes) (r : Next) → Read s r → r ≡ next.Nothing → isCall s ≡ false
+read-nothing s r h e = subst (Read s) e h
+
+pub read-call : (s : Bytes) (r : Next) (h : Head) → Read s r → r ≡ next.Call h → Called s h
+read-call s r h x e = subst (Read s) e x

@@ -6,7 +6,7 @@ use mathlib.Core.List.{List}
 use native.Mathlib.Omega.{arith}
 use lib.ListN.{length}
 use Rattle.store.specs.Buffer.{splice, le4}
-use Rattle.store.proofs.Writes.{join}
+use Rattle.store.proofs.Writes.{Write, write, join}
 use Rattle.store.proofs.Joined.{le4-write}
 use Rattle.script.specs.Numbers.{le8}
 
@@ -15,3 +15,7 @@ unfolding le8
 put8-is l m o a v h e f =
     let q = le4-write l m a (v % 2 ^ 32) e (omega arith) in
     join (a + 4) 4 q (le4-write m o (a + 4) (v / 2 ^ 32) f (omega arith)) refl .is
+
+pub le8-write : (l m : List ℕ) (a v : ℕ) → m ≡ splice l a (le8 v) → a + 8 ≤ length l → Write l m a 8 (le8 v)
+unfolding le8 le4
+le8-write l m a v e h = write l m a 8 (le8 v) e refl h
