@@ -16,14 +16,15 @@ use Rattle.model.specs.Package.{State}
 use Rattle.model.specs.Texts.{declaration}
 use Rattle.model.specs.Calls.{Print, Prints, Text, printed, valueCount}
 use Rattle.model.proofs.Numbers.{numbered, zero-numbered}
-use Rattle.store.specs.Layout.{countOf}
+use Rattle.store.specs.Layout.{countOf, usedOf}
 use Rattle.store.specs.Rows.{rowsOf}
 use Rattle.store.specs.Packages.{isPackage}
 use Rattle.contract.specs.Holds.{Holds}
 use Rattle.contract.specs.Ran.{Ran}
 use Rattle.contract.proofs.Rans.{wrote}
 use Rattle.parts.proofs.TextAnswers.{text-filled}
-use Rattle.streams.specs.Streams.{linesOf, streamOf, Listed, Streamed, Answered}
+use Rattle.streams.specs.Streams.{linesOf, streamOf, runSize, Listed, Streamed, Answered}
+use Rattle.streams.proofs.RowSizes.{run-used}
 
 pub streamed : (b : List ℕ) (f t : ℕ) (head foot o o₁ o₂ o₃ o₄ : Bytes) (m₁ m₂ m₃ m₄ : ℕ) → length o₁ ≡ length o → length o₂ ≡ length o₁ → length o₃ ≡ length o₂
     → Sent o 0 declaration m₁ o₁ → Sent o₁ m₁ head m₂ o₂ → Listed b f t o₂ m₂ m₃ o₃ → Sent o₃ m₃ foot m₄ o₄ → Streamed b f t head foot o m₄ o₄
@@ -33,6 +34,14 @@ streamed b f t head foot o o₁ o₂ o₃ o₄ m₁ m₂ m₃ m₄ l₁ l₂ l�
       sent-more o o₁ o₄ declaration (head ++ (L ++ foot)) 0 m₁ m₄ s₁ l₁
       (sent-more o₁ o₂ o₄ head (L ++ foot) m₁ m₂ m₄ s₂ l₂
       (sent-more o₂ o₃ o₄ L foot m₂ m₃ m₄ (sent-as o₂ o₃ (x .text) L m₂ m₃ (sym (x .is so k)) (x .sent)) l₃ s₄));
+}
+
+-- the rows have n bytes, more than the u that all rows use
+pub answered-foreign : (b : List ℕ) (f t : ℕ) (head foot out : Bytes) → t ≤ countOf b → (u : ℕ) → u ≡ usedOf b → (n : ℕ) → n ≡ runSize b f t → u < n → Answered b f t head foot out (ofWritten (written.Refused 13) out)
+answered-foreign b f t head foot out k u eu n en l = record {
+  kept = λ _. refl;
+  numbered = numbered 13 (omega arith) (omega arith);
+  is = λ so. absurd (omega (arith, run-used b f t so k));
 }
 
 -- n is the length that the first pass over no bytes tells, ys what it left of them
