@@ -36,29 +36,33 @@ streamed b f t head foot o o₁ o₂ o₃ o₄ m₁ m₂ m₃ m₄ l₁ l₂ l�
       (sent-more o₂ o₃ o₄ L foot m₂ m₃ m₄ (sent-as o₂ o₃ (x .text) L m₂ m₃ (sym (x .is so k)) (x .sent)) l₃ s₄));
 }
 
--- the rows have n bytes, more than the u that all rows use
-pub answered-foreign : (b : List ℕ) (f t : ℕ) (head foot out : Bytes) → t ≤ countOf b → (u : ℕ) → u ≡ usedOf b → (n : ℕ) → n ≡ runSize b f t → u < n → Answered b f t head foot out (ofWritten (written.Refused 13) out)
-answered-foreign b f t head foot out k u eu n en l = record {
-  kept = λ _. refl;
-  numbered = numbered 13 (omega arith) (omega arith);
-  is = λ so. absurd (omega (arith, run-used b f t so k));
-}
-
--- n is the length that the first pass over no bytes tells, ys what it left of them
-module _ (b : List ℕ) (f t : ℕ) (head foot : Bytes) (k : t ≤ countOf b) (w ys out : Bytes) (n : ℕ) (x : Streamed b f t head foot w n ys) (z : length ys ≡ 0) where
-  pub answered-short : length (ys ++ out) < n → Answered b f t head foot out (ofWritten (written.Short n) (ys ++ out))
-  answered-short l = record {
-    kept = λ _. append-none ys out z;
-    numbered = numbered 3 (omega arith) (omega arith);
-    is = λ so. let T = streamOf b f t head foot in dry-short (iri.Text T) T w ys out n refl (x .is so k) z l;
+-- the rows have m bytes, and all rows use u
+module _ (b : List ℕ) (f t : ℕ) (head foot : Bytes) (k : t ≤ countOf b) (u : ℕ) (eu : u ≡ usedOf b) (m : ℕ) (em : m ≡ runSize b f t) where
+  pub answered-foreign : (out : Bytes) → u < m → Answered b f t head foot out (ofWritten (written.Refused 13) out)
+  answered-foreign out l = record {
+    kept = λ _. refl;
+    numbered = numbered 13 (omega arith) (omega arith);
+    foreign = λ _. refl;
+    is = λ so. absurd (omega (arith, run-used b f t so k));
   }
 
-  pub answered-bytes : n ≤ length (ys ++ out) → (m : ℕ) (out' : Bytes) → Streamed b f t head foot (ys ++ out) m out' → Answered b f t head foot out (ofWritten (written.Bytes m) out')
-  answered-bytes l m out' y = record {
-    kept = λ r. absurd (r refl);
-    numbered = zero-numbered;
-    is = λ so. let T = streamOf b f t head foot in dry-bytes (iri.Text T) T w ys out n refl (x .is so k) z m out' l (y .is so k);
-  }
+  -- n is the length that the first pass over no bytes tells, ys what it left of them
+  module _ (g : m ≤ u) (w ys out : Bytes) (n : ℕ) (x : Streamed b f t head foot w n ys) (z : length ys ≡ 0) where
+    pub answered-short : length (ys ++ out) < n → Answered b f t head foot out (ofWritten (written.Short n) (ys ++ out))
+    answered-short l = record {
+      kept = λ _. append-none ys out z;
+      numbered = numbered 3 (omega arith) (omega arith);
+      foreign = λ q. absurd (omega arith);
+      is = λ so. let T = streamOf b f t head foot in dry-short (iri.Text T) T w ys out n refl (x .is so k) z l;
+    }
+
+    pub answered-bytes : n ≤ length (ys ++ out) → (r : ℕ) (out' : Bytes) → Streamed b f t head foot (ys ++ out) r out' → Answered b f t head foot out (ofWritten (written.Bytes r) out')
+    answered-bytes l r out' y = record {
+      kept = λ q. absurd (q refl);
+      numbered = zero-numbered;
+      foreign = λ q. absurd (omega arith);
+      is = λ so. let T = streamOf b f t head foot in dry-bytes (iri.Text T) T w ys out n refl (x .is so k) z r out' l (y .is so k);
+    }
 
 -- such an answer is the ledger's, where the ledger prints the stream
 pub stream-ran : (b : List ℕ) → isPackage b ≡ true → (w : Print) → valueCount w ≡ 1 → (out : Bytes) (f t : ℕ) (head foot : Bytes) (a : Answer) → Answered b f t head foot out a

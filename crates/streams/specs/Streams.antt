@@ -11,7 +11,7 @@ use Rattle.iri.specs.Scratch.{Sent}
 use Rattle.model.specs.Sets.{Bytes, joined}
 use Rattle.model.specs.Texts.{declaration}
 use Rattle.model.specs.Calls.{Numbered}
-use Rattle.store.specs.Layout.{slotCount, countOf, slotOf, sizeOf}
+use Rattle.store.specs.Layout.{slotCount, countOf, usedOf, slotOf, sizeOf}
 use Rattle.store.specs.Rows.{Row, rowAt, rowsOf}
 use Rattle.store.specs.Packages.{Sound}
 use Rattle.streams.specs.EntryLines.{lineOf}
@@ -70,8 +70,10 @@ pub record Summing (b : List ℕ) (f t i n : ℕ) : Type 0 where
   pub few : n ≤ i * 2 ^ 34
   pub is : n + sizesOf b f ≡ sizesOf b i
 
--- a is the answer of a call that writes the stream
+-- a is the answer of a call that writes the stream. A foreign buffer may have rows that all lie in one place: where they have more bytes than all rows
+-- use, nothing is written
 pub record Answered (b : List ℕ) (f t : ℕ) (head foot : Bytes) (out : List ℕ) (a : Answer) : Type 0 where
   pub kept : (a .number ≡ 0 → ⊥) → a .output ≡ out
   pub numbered : Numbered (a .number)
+  pub foreign : usedOf b < runSize b f t → a .number ≡ 13
   pub is : Sound b → a ≡ written (Text (streamOf b f t head foot)) out
