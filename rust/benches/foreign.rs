@@ -3,10 +3,12 @@
 
 #[path = "../tests/support/foreign.rs"]
 mod foreign;
+mod support;
 
 use foreign::{Call, Share, CALLS, HEADERS, KINDS};
 use std::hint::black_box;
 use std::time::Instant;
+use support::median;
 use zombirels::package::Package;
 
 /// The bytes of the heaps.
@@ -15,21 +17,20 @@ const HEAPS: [usize; 3] = [1_000_000, 4_000_000, 16_000_000];
 const TIMES: usize = 5;
 const LONG: f64 = 0.5;
 
-/// What a run takes, in milliseconds, by the clock.
+/// What a run takes, in milliseconds, by the wall clock.
 fn milliseconds(run: impl FnOnce()) -> f64 {
     let start = Instant::now();
     run();
     start.elapsed().as_secs_f64() * 1e3
 }
 
-/// The middle of some runs' times.
+/// The median of some runs' times.
 fn middle(mut run: impl FnMut() -> f64) -> f64 {
     let mut times = vec![run()];
     while times.len() < TIMES && times.iter().sum::<f64>() < LONG * 1e3 {
         times.push(run());
     }
-    times.sort_by(f64::total_cmp);
-    times[times.len() / 2]
+    median(times)
 }
 
 /// One pass over the buffer: the sum of its bytes.
@@ -58,12 +59,12 @@ fn time(buffer: &[u8], call: Call, out: &mut [u8]) -> f64 {
 fn at(heap: usize) {
     let mut most = CALLS.map(|_| (0.0, String::new()));
     let mut out = vec![0; heap + 6_000_000];
-    let mut one = 0.0;
+    let mut passes = Vec::new();
     for kind in &KINDS {
         for header in HEADERS {
             for (share, of) in [(Share::Heap, "the heap"), (Share::Used, "the bytes in use")] {
                 let buffer = foreign::buffer(kind, header, share, heap);
-                one = pass(&buffer);
+                passes.push(pass(&buffer));
                 for ((_, call), most) in CALLS.iter().zip(&mut most) {
                     let time = time(&buffer, *call, &mut out);
                     if most.0 < time {
@@ -73,6 +74,7 @@ fn at(heap: usize) {
             }
         }
     }
+    let one = median(passes);
     println!("heap of {heap} bytes, one pass {one:.3}");
     for ((what, _), (time, rows)) in CALLS.iter().zip(most) {
         println!("{what:26} {time:10.3} {:10.2}  {rows}", time / one);
