@@ -206,11 +206,11 @@ opc_reply opc_resolve_relationship(const uint8_t *package, size_t package_length
                                    uint8_t *out, size_t out_length);
 
 /* Writes the Defaults and Overrides as XML: its length.
-   Refusals: 3. */
+   Refusals: 13 in a foreign buffer alone, whose entries have more bytes than it says are in use; 3. */
 opc_reply opc_write_types(const uint8_t *package, size_t package_length, uint8_t *out, size_t out_length);
 
 /* Writes the relationships of a source as XML: its length.
-   Refusals: 4, 5 for the source; 3. */
+   Refusals: 4, 5 for the source; 13 as for opc_write_types; 3. */
 opc_reply opc_write_relationships(const uint8_t *package, size_t package_length, const uint8_t *source, size_t source_length,
                                   uint8_t *out, size_t out_length);
 

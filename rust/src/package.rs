@@ -637,7 +637,9 @@ impl Package<'_> {
     ///
     /// # Errors
     ///
-    /// [`Refusal::NotAPackage`]; [`Refusal::OutputTooShort`].
+    /// [`Refusal::NotAPackage`]; [`Refusal::NotHeld`] in bytes alone that no
+    /// calls made, whose entries have more bytes than they say are in use;
+    /// [`Refusal::OutputTooShort`].
     ///
     /// ```
     /// use zombirels::package::{Package, OVERHEAD};
@@ -670,7 +672,8 @@ impl Package<'_> {
     /// # Errors
     ///
     /// [`Refusal::NotAPackage`]; [`Refusal::NotAPartName`] or
-    /// [`Refusal::Reserved`] for the source; [`Refusal::OutputTooShort`].
+    /// [`Refusal::Reserved`] for the source; [`Refusal::NotHeld`] as
+    /// [`Package::write_types`]; [`Refusal::OutputTooShort`].
     ///
     /// ```
     /// use zombirels::package::{Mode, Package, OVERHEAD};

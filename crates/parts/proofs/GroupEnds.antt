@@ -26,6 +26,7 @@ use Rattle.model.proofs.Lists.{pairs-at}
 use Rattle.model.proofs.Walks.{first-le, first-passes, before-first, first-at, walk-stop, walk-end}
 use Rattle.model.proofs.KeyOrders.{begins-less}
 use Rattle.model.proofs.Places.{not-before-monotone}
+use Rattle.model.proofs.FieldSizes.{prefix-few}
 use Rattle.store.specs.Layout.{countOf}
 use Rattle.store.specs.Rows.{rowAt, tagAt, fieldOf}
 use Rattle.store.specs.Packages.{Shape, Sound}
@@ -158,6 +159,16 @@ module _ (b : List ℕ) (i n : ℕ) (l : i < n) where
     low = x .low;
     high = x .high;
     is = λ S h k. x .is S h k ∙ ap (λ (p : Bytes). i + 1 + lead (inGroup p) (drop (i + 1) (S .items))) (ef (h .lies .sound) (omega (arith, items-le b S h)));
+  }
+
+  -- it is longer than any item's
+  pub ended-long : (f : Bytes) → (Sound b → i < countOf b → f ≡ fieldOf (rowAt b i) 0) → 255 < length f → Ended b (i + 1) n (fieldOf (rowAt b i) 0) (i + 1)
+  ended-long f ef g = record {
+    low = omega arith;
+    high = λ m y w. y;
+    is = λ S h k.
+        let e : length f ≡ length (prefixOf (getD (S .items) i noItem .name)) = ap length (ef (h .lies .sound) (omega (arith, items-le b S h)) ∙ item-prefix b S h i (omega arith)) in
+        absurd (omega (arith, prefix-few S (h .good) i noItem (omega arith)));
   }
 
 -- a walk that has come to row e, which is of the group, and the end behind it

@@ -49,7 +49,8 @@ fn group_end(pkg: &[u8], i: usize, n: usize, p: &[u8]) -> usize
     e
 }
 
-// Where the group of row i ends, before row n. A whole item is alone in its group.
+// Where the group of row i ends, before row n. A whole item is alone in its group. No item has a longer prefix than 255 bytes; a foreign buffer may, and
+// such a row is compared with no other.
 pub fn own_end(pkg: &[u8], i: usize, n: usize) -> usize
     requires { ⌜ (countOf (now pkg) ≤ slotCount) × (i < n) ⌝ }
     ensures { λ r. ⌜ Ended (now (pkg .entry)) (i + 1) n (fieldOf (rowAt (now (pkg .entry)) i) 0) r ⌝ }
@@ -57,7 +58,11 @@ pub fn own_end(pkg: &[u8], i: usize, n: usize) -> usize
     if tag(pkg, i) == 0 {
         return i + 1;
     }
-    group_end(pkg, i + 1, n, field(pkg, i, 0))
+    let p = field(pkg, i, 0);
+    if 255 < p.len() {
+        return i + 1;
+    }
+    group_end(pkg, i + 1, n, p)
 }
 
 // Whether the rows of a group are a part. They stand by number, and a last mark stands above all other numbers: the last row tells.

@@ -16,14 +16,15 @@ use Rattle.model.specs.Package.{State}
 use Rattle.model.specs.Texts.{declaration}
 use Rattle.model.specs.Calls.{Print, Prints, Text, printed, valueCount}
 use Rattle.model.proofs.Numbers.{numbered, zero-numbered}
-use Rattle.store.specs.Layout.{countOf}
+use Rattle.store.specs.Layout.{countOf, usedOf}
 use Rattle.store.specs.Rows.{rowsOf}
 use Rattle.store.specs.Packages.{isPackage}
 use Rattle.contract.specs.Holds.{Holds}
 use Rattle.contract.specs.Ran.{Ran}
 use Rattle.contract.proofs.Rans.{wrote}
 use Rattle.parts.proofs.TextAnswers.{text-filled}
-use Rattle.streams.specs.Streams.{linesOf, streamOf, Listed, Streamed, Answered}
+use Rattle.streams.specs.Streams.{linesOf, streamOf, runSize, Listed, Streamed, Answered}
+use Rattle.streams.proofs.RowSizes.{run-used}
 
 pub streamed : (b : List ℕ) (f t : ℕ) (head foot o o₁ o₂ o₃ o₄ : Bytes) (m₁ m₂ m₃ m₄ : ℕ) → length o₁ ≡ length o → length o₂ ≡ length o₁ → length o₃ ≡ length o₂
     → Sent o 0 declaration m₁ o₁ → Sent o₁ m₁ head m₂ o₂ → Listed b f t o₂ m₂ m₃ o₃ → Sent o₃ m₃ foot m₄ o₄ → Streamed b f t head foot o m₄ o₄
@@ -35,21 +36,33 @@ streamed b f t head foot o o₁ o₂ o₃ o₄ m₁ m₂ m₃ m₄ l₁ l₂ l�
       (sent-more o₂ o₃ o₄ L foot m₂ m₃ m₄ (sent-as o₂ o₃ (x .text) L m₂ m₃ (sym (x .is so k)) (x .sent)) l₃ s₄));
 }
 
--- n is the length that the first pass over no bytes tells, ys what it left of them
-module _ (b : List ℕ) (f t : ℕ) (head foot : Bytes) (k : t ≤ countOf b) (w ys out : Bytes) (n : ℕ) (x : Streamed b f t head foot w n ys) (z : length ys ≡ 0) where
-  pub answered-short : length (ys ++ out) < n → Answered b f t head foot out (ofWritten (written.Short n) (ys ++ out))
-  answered-short l = record {
-    kept = λ _. append-none ys out z;
-    numbered = numbered 3 (omega arith) (omega arith);
-    is = λ so. let T = streamOf b f t head foot in dry-short (iri.Text T) T w ys out n refl (x .is so k) z l;
+-- the rows have m bytes, and all rows use u
+module _ (b : List ℕ) (f t : ℕ) (head foot : Bytes) (k : t ≤ countOf b) (u : ℕ) (eu : u ≡ usedOf b) (m : ℕ) (em : m ≡ runSize b f t) where
+  pub answered-foreign : (out : Bytes) → u < m → Answered b f t head foot out (ofWritten (written.Refused 13) out)
+  answered-foreign out l = record {
+    kept = λ _. refl;
+    numbered = numbered 13 (omega arith) (omega arith);
+    foreign = λ _. refl;
+    is = λ so. absurd (omega (arith, run-used b f t so k));
   }
 
-  pub answered-bytes : n ≤ length (ys ++ out) → (m : ℕ) (out' : Bytes) → Streamed b f t head foot (ys ++ out) m out' → Answered b f t head foot out (ofWritten (written.Bytes m) out')
-  answered-bytes l m out' y = record {
-    kept = λ r. absurd (r refl);
-    numbered = zero-numbered;
-    is = λ so. let T = streamOf b f t head foot in dry-bytes (iri.Text T) T w ys out n refl (x .is so k) z m out' l (y .is so k);
-  }
+  -- n is the length that the first pass over no bytes tells, ys what it left of them
+  module _ (g : m ≤ u) (w ys out : Bytes) (n : ℕ) (x : Streamed b f t head foot w n ys) (z : length ys ≡ 0) where
+    pub answered-short : length (ys ++ out) < n → Answered b f t head foot out (ofWritten (written.Short n) (ys ++ out))
+    answered-short l = record {
+      kept = λ _. append-none ys out z;
+      numbered = numbered 3 (omega arith) (omega arith);
+      foreign = λ q. absurd (omega arith);
+      is = λ so. let T = streamOf b f t head foot in dry-short (iri.Text T) T w ys out n refl (x .is so k) z l;
+    }
+
+    pub answered-bytes : n ≤ length (ys ++ out) → (r : ℕ) (out' : Bytes) → Streamed b f t head foot (ys ++ out) r out' → Answered b f t head foot out (ofWritten (written.Bytes r) out')
+    answered-bytes l r out' y = record {
+      kept = λ q. absurd (q refl);
+      numbered = zero-numbered;
+      foreign = λ q. absurd (omega arith);
+      is = λ so. let T = streamOf b f t head foot in dry-bytes (iri.Text T) T w ys out n refl (x .is so k) z r out' l (y .is so k);
+    }
 
 -- such an answer is the ledger's, where the ledger prints the stream
 pub stream-ran : (b : List ℕ) → isPackage b ≡ true → (w : Print) → valueCount w ≡ 1 → (out : Bytes) (f t : ℕ) (head foot : Bytes) (a : Answer) → Answered b f t head foot out a

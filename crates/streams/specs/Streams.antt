@@ -1,7 +1,7 @@
 -- What the functions that write a stream send to the output. These are promises of inner functions: some text in any case, so that its length
 -- is bounded, and the right one where the buffer is sound.
 -- Assumes nothing.
-use Prim.Native.Nat.{ℕ, _-_, _*_, _^_, _≤_, _<_}
+use Prim.Native.Nat.{ℕ, zero, suc, _+_, _-_, _*_, _^_, _≤_, _<_}
 use mathlib.Core.Path.{_≡_}
 use mathlib.Core.List.{List, _++_}
 use lib.ListN.{length}
@@ -11,7 +11,7 @@ use Rattle.iri.specs.Scratch.{Sent}
 use Rattle.model.specs.Sets.{Bytes, joined}
 use Rattle.model.specs.Texts.{declaration}
 use Rattle.model.specs.Calls.{Numbered}
-use Rattle.store.specs.Layout.{slotCount, countOf}
+use Rattle.store.specs.Layout.{slotCount, countOf, usedOf, slotOf, sizeOf}
 use Rattle.store.specs.Rows.{Row, rowAt, rowsOf}
 use Rattle.store.specs.Packages.{Sound}
 use Rattle.streams.specs.EntryLines.{lineOf}
@@ -54,8 +54,26 @@ streamOf b f t head foot = declaration ++ (head ++ (linesOf f t (rowsOf b) ++ fo
 pub record Streamed (b : List ℕ) (f t : ℕ) (head foot : Bytes) (out : List ℕ) (next : ℕ) (out' : List ℕ) : Type 0 where
   pub is : Sound b → t ≤ countOf b → Sent out 0 (streamOf b f t head foot) next out'
 
--- a is the answer of a call that writes the stream
+-- the bytes of the first n rows together, as the slots tell
+unfoldable pub sizesOf : List ℕ → ℕ → ℕ
+sizesOf b zero = 0
+sizesOf b (suc n) = sizesOf b n + sizeOf (slotOf b n)
+
+-- and those of the rows from f up to t
+abbrev pub runSize : List ℕ → ℕ → ℕ → ℕ
+runSize b f t = sizesOf b t - sizesOf b f
+
+-- a walk from row f towards row t has come to row i, over n bytes
+pub record Summing (b : List ℕ) (f t i n : ℕ) : Type 0 where
+  pub low : f ≤ i
+  pub high : i - f ≤ t - f
+  pub few : n ≤ i * 2 ^ 34
+  pub is : n + sizesOf b f ≡ sizesOf b i
+
+-- a is the answer of a call that writes the stream. A foreign buffer may have rows that all lie in one place: where they have more bytes than all rows
+-- use, nothing is written
 pub record Answered (b : List ℕ) (f t : ℕ) (head foot : Bytes) (out : List ℕ) (a : Answer) : Type 0 where
   pub kept : (a .number ≡ 0 → ⊥) → a .output ≡ out
   pub numbered : Numbered (a .number)
+  pub foreign : usedOf b < runSize b f t → a .number ≡ 13
   pub is : Sound b → a ≡ written (Text (streamOf b f t head foot)) out

@@ -3,13 +3,17 @@ use crate::markup::put_relationship;
 use crate::markup::put_type;
 use iri::writing::Written;
 use iri::writing::emit;
+use store::header::used;
 use store::rows::field;
 use store::rows::tag;
+use store::slots::size;
+ghost use mathlib.Core.Path.{_≡_};
 ghost use Prim.Native.Nat.{_^_, _≤_};
 ghost use lib.ListN.{length};
 ghost use Rattle.iri.specs.Answers.{ofWritten};
-ghost use Rattle.store.specs.Layout.{slotCount, countOf};
-ghost use Rattle.streams.specs.Streams.{Lined, Listed, Streamed, Answered};
+ghost use Rattle.store.specs.Layout.{slotCount, heapStart, countOf};
+ghost use Rattle.store.specs.Packages.{Shape};
+ghost use Rattle.streams.specs.Streams.{runSize, Lined, Listed, Streamed, Answered};
 
 // The line of row i.
 fn put_line(pkg: &[u8], i: usize, out: &mut [u8], at: usize) -> usize
@@ -70,7 +74,22 @@ fn put_stream(pkg: &[u8], from: usize, to: usize, head: &[u8], foot: &[u8], out:
     emit(out, c, foot)
 }
 
-// The answer of a call that writes such a stream. A first pass over none of the output tells the length.
+// How many bytes the rows from one up to, not including, the row `to` have together, as their slots tell.
+fn run_size(pkg: &[u8], from: usize, to: usize) -> usize
+    requires { ⌜ (to ≤ slotCount) × (heapStart ≤ length (now pkg)) ⌝ }
+    ensures { λ r. ⌜ r ≡ runSize (now (pkg .entry)) from to ⌝ }
+{
+    let mut n = 0;
+    let mut i = from;
+    while i < to {
+        n += size(pkg, i);
+        i += 1;
+    }
+    n
+}
+
+// The answer of a call that writes such a stream. No rows of a package have more bytes than all of them use; those of a foreign buffer, which may all lie in
+// one place, are not looked at then. A first pass over none of the output tells the length.
 pub(crate) fn write_stream(
     pkg: &[u8],
     from: usize,
@@ -79,9 +98,12 @@ pub(crate) fn write_stream(
     foot: &[u8],
     out: &mut [u8],
 ) -> Written
-    requires { ⌜ (to ≤ countOf (now pkg)) × (to ≤ slotCount) × (length (now head) ≤ 1000) × (length (now foot) ≤ 1000) ⌝ }
+    requires { ⌜ Shape (now pkg) × (to ≤ countOf (now pkg)) × (length (now head) ≤ 1000) × (length (now foot) ≤ 1000) ⌝ }
     ensures { λ r. ⌜ Answered (now (pkg .entry)) from to (now (head .entry)) (now (foot .entry)) (now (out .entry)) (ofWritten r (now (out .exit))) ⌝ }
 {
+    if used(pkg) < run_size(pkg, from, to) {
+        return Written::Refused(13);
+    }
     let need = put_stream(pkg, from, to, head, foot, &mut out[..0]);
     if out.len() < need {
         return Written::Short(need);

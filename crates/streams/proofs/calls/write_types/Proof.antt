@@ -27,7 +27,7 @@ slice-aggregate-write-stream-2 c = search needs
 
 write-stream-requires : tie.Need-write-stream-requires
 write-stream-requires c κs =
-    (c .before .before .before .set-start2 .ensures .within, omega (arith, c .before .before .before .set-start2 .ensures .within, opened-shape _ _ (c .before .before .before .before .before .before .is-package .ensures) (c .before .before .before .before .before .if1 .left) .few), omega arith, omega arith)
+    (opened-shape _ _ (c .before .before .before .before .before .before .is-package .ensures) (c .before .before .before .before .before .if1 .left), c .before .before .before .set-start2 .ensures .within, omega arith, omega arith)
 
 same-length : tie.Need-same-length
 same-length c = search needs
