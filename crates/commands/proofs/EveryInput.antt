@@ -14,7 +14,7 @@ use Rattle.model.specs.Sheet.{linesOf, shown, sheet}
 use Rattle.contract.specs.Holds.{Holds}
 use Rattle.contract.specs.Ran.{Ran}
 use Rattle.lines.specs.Gathering.{Open}
-use Rattle.commands.specs.Feeding.{mostShown, Round, Feeds, Ends}
+use Rattle.commands.specs.Feeding.{Round}
 use Rattle.commands.specs.Inputs.{sheetCapacity, PrintedFor, ended, fed, EveryInput}
 use Rattle.commands.proofs.FedLines.{open-none}
 

@@ -1,6 +1,6 @@
--- The program's account: what it has read, what it has printed, and that the one is document 01's for the other.
+-- The program's account: what it has read, and what it has printed for it.
 -- Assumes nothing.
-use Prim.Native.Nat.{ℕ, _+_, _≤_, _<_}
+use Prim.Native.Nat.{ℕ, _≤_, _<_}
 use mathlib.Core.Path.{_≡_}
 use mathlib.Core.List.{_++_}
 use lib.ListN.{length, take}
@@ -12,8 +12,9 @@ use Rattle.lines.specs.Gathering.{Open}
 use Rattle.commands.specs.Feeding.{mostShown}
 use Rattle.sheet.specs.Passing.{Passed}
 
--- the program between two calls. The bytes p hold a package, n bytes of a line have come, and the bytes `ahead` of the input are to be run; there is room for
--- a line and for what one prints. Whatever is read later, what `sheet` prints for all of it is what was printed, then what the package prints for the rest
+-- the program between two calls. The bytes p hold a package, n bytes of a line have come, and the bytes `ahead` of the input are still to be run; there is room
+-- for a line and for what one prints. `input` has been read and `printed` has been printed: whatever is read later, `sheet` of all of it (with C of 30,000) is
+-- what has been printed, followed by what the package as it is prints for the rest
 pub record Ready (p line : Bytes) (n : ℕ) (ahead out : Bytes) (read written : ℕ) : Type 0 where
   pub input : Bytes
   pub printed : Bytes
@@ -26,7 +27,7 @@ pub record Ready (p line : Bytes) (n : ℕ) (ahead out : Bytes) (read written : 
   pub room : mostShown ≤ length out
   pub is : (later : Bytes) → sheet (input ++ later) ≡ printed ++ shown state (linesOf (take n line ++ (ahead ++ later)))
 
--- THE STATEMENT. A whole run: some input has been read, and `sheet` of it has been printed
+-- THE STATEMENT. A whole run: an input has been read, and `sheet` of it has been printed
 pub record Whole (read written : ℕ) : Type 0 where
   pub input : Bytes
   pub came : Passed read input

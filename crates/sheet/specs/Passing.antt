@@ -1,14 +1,15 @@
 -- What has passed through standard input or standard output.
 -- Assumes nothing.
 use Prim.Native.Nat.{ℕ, _+_, _%_, _^_}
-use mathlib.Core.Path.{_≡_, refl, _∙_}
+use mathlib.Core.Path.{_≡_, refl}
 use mathlib.Core.List.{[], _++_}
 use native.Mathlib.Omega.{arith}
 use lib.ListN.{length, length-append}
 use Rattle.model.specs.Sets.{Bytes}
 
--- s has passed through a stream since the program began, n bytes by its count. What a call of `read` or `write` moves, no contract can say: that bytes
--- pass is promised by `read_some` and `print`, which make these calls. The field is private, so no other proof can take one s for another of its length.
+-- s has passed through a stream since the program began: n bytes, counted modulo 2^64. No contract can say which bytes a call of `read` or `write` moves;
+-- so `read_some` and `print`, which alone make these calls, promise that bytes have passed, and count them. The field is private to this file: elsewhere no
+-- proof can take one text for another of its length.
 pub record Passed (n : ℕ) (s : Bytes) : Type 0 where
   counted : n ≡ length s % 2 ^ 64
 

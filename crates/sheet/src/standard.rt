@@ -1,5 +1,5 @@
-// Standard input and output. What a call of `read` or `write` moves, no contract can say: here alone the program makes such calls, and each function
-// promises that the bytes it hands on have passed, and counts them.
+// Standard input and output. No contract can say which bytes a call of `read` or `write` moves. Such calls are made here alone, and what they move is promised
+// to have passed, and counted.
 use libc::STDERR_FILENO;
 use libc::STDIN_FILENO;
 use libc::STDOUT_FILENO;
@@ -13,7 +13,7 @@ fn complain(text: &[u8]) {
     io::write_all(STDERR_FILENO, text);
 }
 
-// Writes a text.
+// Hands a text to standard output.
 pub fn print(text: &[u8], written: &mut usize)
     ensures { λ _. ⌜ Passes (now (written .entry)) (now (text .entry)) (now (written .exit)) ⌝ }
 {
