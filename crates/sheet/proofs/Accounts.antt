@@ -5,6 +5,8 @@ use mathlib.Core.Path.{_≡_, refl, ap, sym, subst, _∙_}
 use mathlib.Core.List.{[], _++_, append-assoc, append-nil}
 use native.Mathlib.Omega.{arith}
 use lib.ListN.{length, take, drop, drop-of-length-le}
+use Rattle.io.specs.Counts.{Counts}
+use Rattle.io.proofs.Counting.{counts}
 use Rattle.model.specs.Sets.{Bytes}
 use Rattle.model.specs.Package.{empty}
 use Rattle.model.specs.Sheet.{linesOf, shown, sheet}
@@ -54,8 +56,8 @@ module _ (p line : Bytes) (n : ℕ) (out : Bytes) (read written : ℕ) where
       last : (k ≤ length out) × (shown (y .state) (linesOf (take n line)) ≡ take k out')
       last = f .is (y .state) (y .holds) (y .begun) (y .room)
 
-      pub ready-last : length out' ≡ length out → k ≤ length out'
-      ready-last m = omega (arith, last .0)
+      pub ready-last : length out' ≡ length out → Counts k out'
+      ready-last m = counts k out' (omega (arith, last .0))
 
       printed-is : y .printed ++ take k out' ≡ sheet (y .input)
       printed-is =
@@ -74,8 +76,8 @@ module _ (p line : Bytes) (n : ℕ) (out : Bytes) (read written : ℕ) where
       turn : Round (y .state) line n piece from out n' from' k p' line' out'
       turn = f .is (y .state) (y .holds) (y .wide) (y .begun) inside (y .room)
 
-      pub ready-fits : length out' ≡ length out → k ≤ length out'
-      ready-fits m = omega (arith, turn .fits)
+      pub ready-fits : length out' ≡ length out → Counts k out'
+      ready-fits m = counts k out' (omega (arith, turn .fits))
 
       pub ready-more : length out' ≡ length out → length line' ≡ length line → (written' : ℕ) → Passes written (take k out') written'
           → Ready p' line' n' (drop from' piece) out' read written'

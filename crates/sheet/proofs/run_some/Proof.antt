@@ -1,8 +1,7 @@
 use Prim.Native.Nat.{_-_, _≤_}
-use mathlib.Core.Path.{_≡_, refl, sym, _∙_}
+use mathlib.Core.Path.{_≡_, refl, _∙_}
 use native.Mathlib.Omega.{arith}
 use lib.ListN.{length, drop}
-use lib.Seq.{length-take-le}
 use borrow.Author.Needs.{needs}
 use Rattle.sheet.specs.Account.{Ready}
 use Rattle.sheet.proofs.Accounts.{ready-read, ready-fits, ready-more, ready-through}
@@ -26,13 +25,13 @@ slice-reshare-prefix-print : tie.Need-slice-reshare-prefix-print Inv-loop μ-loo
 slice-reshare-prefix-print c =
     let at-feed = c .before .before .before .before .before .before in
     let at-loop = at-feed .before .before .before .before .before in
-    omega (arith, ready-fits _ _ _ _ _ _ _ _ (at-loop .loop .inv .4) (at-loop .loop .inv .3) _ _ _ _ _ _ (at-feed .feed .ensures) (at-feed .feed .kept .1 .1 .1 .1 .1 .0))
+    omega (arith, ready-fits _ _ _ _ _ _ _ _ (at-loop .loop .inv .4) (at-loop .loop .inv .3) _ _ _ _ _ _ (at-feed .feed .ensures) (at-feed .feed .kept .1 .1 .1 .1 .1 .0) .0)
 
 slice-aggregate-print : tie.Need-slice-aggregate-print Inv-loop μ-loop
 slice-aggregate-print c =
     let at-feed = c .before .before .before .before .before .before .before in
     let at-loop = at-feed .before .before .before .before .before in
-    sym (length-take-le _ _ (omega (arith, ready-fits _ _ _ _ _ _ _ _ (at-loop .loop .inv .4) (at-loop .loop .inv .3) _ _ _ _ _ _ (at-feed .feed .ensures) (at-feed .feed .kept .1 .1 .1 .1 .1 .0))))
+    omega (arith, ready-fits _ _ _ _ _ _ _ _ (at-loop .loop .inv .4) (at-loop .loop .inv .3) _ _ _ _ _ _ (at-feed .feed .ensures) (at-feed .feed .kept .1 .1 .1 .1 .1 .0) .1)
 
 loop-less : tie.Need-loop-less Inv-loop μ-loop
 loop-less c =
