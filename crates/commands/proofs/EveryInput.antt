@@ -1,4 +1,4 @@
--- What the program prints is document 01's; and what it may count on between two lines.
+-- What is to be printed for an input is document 01's.
 -- Assumes nothing.
 use Prim.Native.Nat.{ℕ, _+_, _≤_, _<_}
 use mathlib.Core.Path.{_≡_, ap, sym, _∙_}
@@ -14,8 +14,8 @@ use Rattle.model.specs.Sheet.{linesOf, shown, sheet}
 use Rattle.contract.specs.Holds.{Holds}
 use Rattle.contract.specs.Ran.{Ran}
 use Rattle.lines.specs.Gathering.{Open}
-use Rattle.commands.specs.Feeding.{mostShown, Round, Feeds, Ends}
-use Rattle.commands.specs.Inputs.{sheetCapacity, Ready, PrintedFor, ended, fed, EveryInput}
+use Rattle.commands.specs.Feeding.{Round}
+use Rattle.commands.specs.Inputs.{sheetCapacity, PrintedFor, ended, fed, EveryInput}
 use Rattle.commands.proofs.FedLines.{open-none}
 
 -- THE START
@@ -23,29 +23,10 @@ start-accepted : (n : ℕ) → sheetCapacity + overhead ≤ n → startRefusal n
 unfolding startRefusal
 start-accepted n l = rw (le-ltb n (sheetCapacity + overhead) l)
 
-started-holds : (o p : Bytes) (a : Answer) → sheetCapacity + overhead ≤ length o → Ran (Start sheetCapacity) o a p → Holds p (empty sheetCapacity)
+pub started-holds : (o p : Bytes) (a : Answer) → sheetCapacity + overhead ≤ length o → Ran (Start sheetCapacity) o a p → Holds p (empty sheetCapacity)
 started-holds o p a l r = r .begun .0 (start-accepted (length o) l) .1
 
--- BETWEEN TWO LINES
-pub ready-begin : (o p : Bytes) (a : Answer) (line out : Bytes) → sheetCapacity + overhead ≤ length o → Ran (Start sheetCapacity) o a p → 1024 < length line → mostShown ≤ length out
-    → Ready p line 0 out
-ready-begin o p a line out l r w m = record { state = empty sheetCapacity; holds = started-holds o p a l r; begun = open-none line; wide = w; room = m }
-
-module _ (p line : Bytes) (n : ℕ) (out : Bytes) (r : Ready p line n out) where
-  module _ (piece : Bytes) (from : ℕ) (inside : from ≤ length piece) (n' from' k : ℕ) (p' line' out' : Bytes) (f : Feeds p line n piece from out n' from' k p' line' out') where
-    turn : Round (r .state) line n piece from out n' from' k p' line' out'
-    turn = f .is (r .state) (r .holds) (r .wide) (r .begun) inside (r .room)
-
-    pub ready-fits : k ≤ length out
-    ready-fits = turn .fits
-
-    pub ready-more : length line' ≡ length line → length out' ≡ length out → Ready p' line' n' out'
-    ready-more l m = record { state = turn .after; holds = turn .holds; begun = turn .begun; wide = omega (arith, r .wide); room = omega (arith, r .room) }
-
-  pub ready-ends : (k : ℕ) (out' : Bytes) → Ends p line n out k out' → k ≤ length out
-  ready-ends k out' e = e .is (r .state) (r .holds) (r .begun) (r .room) .0
-
--- THE WHOLE RUN
+-- EVERY INPUT
 from-here : {p line input printed : Bytes} {n : ℕ} → PrintedFor p line n input printed → (S : State) → Holds p S → 1024 < length line → Open (take n line)
     → shown S (linesOf (take n line ++ input)) ≡ printed
 from-here (ended {p} {line} {out} {out'} {n} {k} m e) S h w o = ap (λ (s : Bytes). shown S (linesOf s)) (append-nil (take n line)) ∙ e .is S h o m .1

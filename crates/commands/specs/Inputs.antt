@@ -1,4 +1,4 @@
--- A whole run of the program `sheet`: what it prints for its input.
+-- An input of the program `sheet`, fed in pieces: what is to be printed for it.
 -- Assumes nothing.
 use Prim.Native.Nat.{ℕ, _+_, _≤_, _<_}
 use mathlib.Core.Path.{_≡_}
@@ -6,25 +6,14 @@ use mathlib.Core.List.{[], _++_}
 use lib.ListN.{length, take, drop}
 use Rattle.iri.specs.Answers.{Answer}
 use Rattle.model.specs.Sets.{Bytes}
-use Rattle.model.specs.Package.{State}
 use Rattle.model.specs.Calls.{Start, overhead}
 use Rattle.model.specs.Sheet.{sheet}
-use Rattle.contract.specs.Holds.{Holds}
 use Rattle.contract.specs.Ran.{Ran}
-use Rattle.lines.specs.Gathering.{Open}
 use Rattle.commands.specs.Feeding.{mostShown, Feeds, Ends}
 
 -- "C is 30,000."
 abbrev pub sheetCapacity : ℕ
 sheetCapacity = 30000
-
--- the program between two lines: the bytes p hold a package, n bytes of a line have come, there is room for a line and for what one prints
-pub record Ready (p line : Bytes) (n : ℕ) (out : Bytes) : Type 0 where
-  pub state : State
-  pub holds : Holds p state
-  pub begun : Open (take n line)
-  pub wide : 1024 < length line
-  pub room : mostShown ≤ length out
 
 -- what is printed for the rest of an input, from the bytes p of a package and the n bytes of a line on: pieces are fed, each from a place on,
 -- and after each feed so many bytes of the output are printed; then the input ends. (What follows the place in a piece is fed next, then what

@@ -1,79 +1,67 @@
 use mathlib.Core.Path.{_≡_, refl, _∙_}
+use mathlib.Core.List.{[]}
 use native.Mathlib.Omega.{arith}
 use lib.ListN.{length}
-use Rattle.commands.specs.Inputs.{Ready}
+use Rattle.sheet.specs.Account.{Ready}
 use Rattle.sheet.proofs.run_all.Statement.{statement}
 use Rattle.sheet.proofs.run_all.Tie as tie
 
 abbrev Inv-loop : tie.InvT-loop
-Inv-loop pkg₀ line₀ piece₀ out₀ n₀ turns₀ pkg line piece out n turns = (length pkg ≡ length pkg₀) × (length line ≡ length line₀) × (length piece ≡ length piece₀) × (length out ≡ length out₀) × Ready pkg line n out
+Inv-loop pkg₀ line₀ piece₀ out₀ read₀ written₀ n₀ turns₀ pkg line piece out read written n turns =
+    (length pkg ≡ length pkg₀) × (length line ≡ length line₀) × (length piece ≡ length piece₀) × (length out ≡ length out₀) × Ready pkg line n [] out read written
 
 abbrev μ-loop : tie.MeasureT-loop
-μ-loop pkg₀ line₀ piece₀ out₀ n₀ turns₀ pkg line piece out n turns = turns
-
-loop-holds : tie.Need-loop-holds Inv-loop μ-loop
-loop-holds c = (refl, refl, refl, refl, c .before .before .before .before .pre)
+μ-loop pkg₀ line₀ piece₀ out₀ read₀ written₀ n₀ turns₀ pkg line piece out read written n turns = turns
 
 run-some-requires : tie.Need-run-some-requires Inv-loop μ-loop
-run-some-requires c κs = c .before .before .before .before .before .before .loop .inv .4
+run-some-requires c κs = c .before .before .before .before .before .before .before .before .loop .inv .4
 
 sub-turns : tie.Need-sub-turns Inv-loop μ-loop
-sub-turns c = omega (arith, c .before .before .before .before .before .before .before .before .before .before .before .before .before .before .before .loop-test .taken)
+sub-turns c =
+    let in-loop = c .before .before .before .before .before .before .before .before .before .before .before .before .before .before .before .before .before in
+    omega (arith, in-loop .loop-test .taken)
 
 loop-less : tie.Need-loop-less Inv-loop μ-loop
-loop-less c = omega (arith, c .before .before .before .before .before .before .before .before .before .before .before .before .before .before .before .loop-test .taken)
+loop-less c =
+    let in-loop = c .before .before .before .before .before .before .before .before .before .before .before .before .before .before .before .before .before in
+    omega (arith, in-loop .loop-test .taken)
 
 loop-again : tie.Need-loop-again Inv-loop μ-loop
-loop-again c = (c .before .before .before .before .before .before .before .before .before .run-some .kept .0 ∙ c .before .before .before .before .before .before .before .before .before .before .before .before .before .before .before .before .loop .inv .0, c .before .before .before .before .before .before .before .before .before .run-some .kept .1 .0 ∙ c .before .before .before .before .before .before .before .before .before .before .before .before .before .before .before .before .loop .inv .1, c .before .before .before .before .before .before .before .before .before .run-some .kept .1 .1 .1 .0 ∙ c .before .before .before .before .before .before .before .before .before .before .before .before .before .before .before .before .loop .inv .2, c .before .before .before .before .before .before .before .before .before .run-some .kept .1 .1 .1 .1 .0 ∙ c .before .before .before .before .before .before .before .before .before .before .before .before .before .before .before .before .loop .inv .3, c .before .before .before .before .before .before .before .before .before .run-some .ensures)
+loop-again c =
+    let at-run-some = c .before .before .before .before .before .before .before .before .before in
+    let kept = at-run-some .run-some .kept in
+    let inv = at-run-some .before .before .before .before .before .before .before .before .before .loop .inv in
+    (kept .0 ∙ inv .0, kept .1 .0 ∙ inv .1, kept .1 .1 .1 .0 ∙ inv .2, kept .1 .1 .1 .1 .0 ∙ inv .3, at-run-some .run-some .ensures)
 
 same-length : tie.Need-same-length Inv-loop μ-loop
-same-length c = c .before .before .before .before .before .before .before .before .before .run-some .kept .0 ∙ c .before .before .before .before .before .before .before .before .before .before .before .before .before .before .before .before .loop .inv .0
+same-length c =
+    let at-run-some = c .before .before .before .before .before .before .before .before .before in
+    at-run-some .run-some .kept .0 ∙ at-run-some .before .before .before .before .before .before .before .before .before .loop .inv .0
 
 same-length-2 : tie.Need-same-length-2 Inv-loop μ-loop
-same-length-2 c = c .before .before .before .before .before .before .before .before .before .run-some .kept .1 .0 ∙ c .before .before .before .before .before .before .before .before .before .before .before .before .before .before .before .before .loop .inv .1
+same-length-2 c =
+    let at-run-some = c .before .before .before .before .before .before .before .before .before in
+    at-run-some .run-some .kept .1 .0 ∙ at-run-some .before .before .before .before .before .before .before .before .before .loop .inv .1
 
 same-length-3 : tie.Need-same-length-3 Inv-loop μ-loop
-same-length-3 c = c .before .before .before .before .before .before .before .before .before .run-some .kept .1 .1 .1 .0 ∙ c .before .before .before .before .before .before .before .before .before .before .before .before .before .before .before .before .loop .inv .2
+same-length-3 c =
+    let at-run-some = c .before .before .before .before .before .before .before .before .before in
+    at-run-some .run-some .kept .1 .1 .1 .0 ∙ at-run-some .before .before .before .before .before .before .before .before .before .loop .inv .2
 
 same-length-4 : tie.Need-same-length-4 Inv-loop μ-loop
-same-length-4 c = c .before .before .before .before .before .before .before .before .before .run-some .kept .1 .1 .1 .1 .0 ∙ c .before .before .before .before .before .before .before .before .before .before .before .before .before .before .before .before .loop .inv .3
+same-length-4 c =
+    let at-run-some = c .before .before .before .before .before .before .before .before .before in
+    at-run-some .run-some .kept .1 .1 .1 .1 .0 ∙ at-run-some .before .before .before .before .before .before .before .before .before .loop .inv .3
 
 returns : tie.Need-returns Inv-loop μ-loop
 returns c = c .before .before .before .before .before .before .before .before .before .run-some .ensures
-
-same-length-5 : tie.Need-same-length-5 Inv-loop μ-loop
-same-length-5 c = c .before .loop .inv .0
-
-same-length-6 : tie.Need-same-length-6 Inv-loop μ-loop
-same-length-6 c = c .before .loop .inv .1
-
-same-length-7 : tie.Need-same-length-7 Inv-loop μ-loop
-same-length-7 c = c .before .loop .inv .2
-
-same-length-8 : tie.Need-same-length-8 Inv-loop μ-loop
-same-length-8 c = c .before .loop .inv .3
-
-returns-2 : tie.Need-returns-2 Inv-loop μ-loop
-returns-2 c = c .before .loop .inv .4
 
 pub run-all-spec : {M : Type 1} → statement M
 run-all-spec =
     tie.close
     (tie.spec
-    Inv-loop
-    μ-loop
-    loop-holds
-    run-some-requires
-    sub-turns
-    loop-less
-    loop-again
-    same-length
-    same-length-2
-    same-length-3
-    same-length-4
-    returns
-    same-length-5
-    same-length-6
-    same-length-7
-    same-length-8
-    returns-2)
+    Inv-loop μ-loop
+    (λ c. (refl, refl, refl, refl, c .before .before .before .before .pre))
+    run-some-requires sub-turns loop-less loop-again
+    same-length same-length-2 same-length-3 same-length-4 returns
+    (λ c. c .before .loop .inv .0) (λ c. c .before .loop .inv .1) (λ c. c .before .loop .inv .2) (λ c. c .before .loop .inv .3) (λ c. c .before .loop .inv .4))
