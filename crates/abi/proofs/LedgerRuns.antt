@@ -11,16 +11,17 @@ use lib.Seq.{drop-drop}
 use borrow.Author.Tests.{lt-ltb, le-ltb, ne-eqb}
 use Rattle.iri.specs.Answers.{Answer, answer}
 use Rattle.model.specs.Sets.{Bytes}
-use Rattle.model.specs.Package.{State}
-use Rattle.model.specs.Calls.{step, answers, after}
+use Rattle.model.specs.Package.{State, empty}
+use Rattle.model.specs.Calls.{Call, Start, startRefusal, step, answers, after}
 use Rattle.model.proofs.Lists.{append-nil}
 use Rattle.contract.specs.Holds.{Holds}
 use Rattle.contract.specs.Ran.{Ran}
+use Rattle.contract.proofs.Rans.{changed-made}
 use Rattle.script.specs.Calls.{sizeOf, isCall, callIn}
 use Rattle.script.proofs.CallTests.{call-inside}
 use Rattle.abi.specs.declared.replies.Reply.{Reply}
 use Rattle.abi.specs.Replies.{replyOf}
-use Rattle.abi.specs.Scripts.{replySize, recorded, unread, spanOf, lentIn, Entry, Made, Unread, entriesTo, callsIn, sizeIn, textOf, Scripted, ended, full, strange, made, RunAs}
+use Rattle.abi.specs.Scripts.{replySize, recorded, unread, spanOf, lentIn, Entry, Made, Unread, entriesTo, callsIn, sizeIn, textOf, Scripted, ended, full, strange, made, FromLedger, RunAs}
 use Rattle.abi.proofs.Recording.{reply-length}
 use Rattle.abi.proofs.Turning.{span-of-none}
 
@@ -46,6 +47,15 @@ strange-entries (suc f) s out z l e r = rw (le-ltb (length out) (spanOf s) (omeg
 more-entries : (f : ℕ) (s out : Bytes) → isCall s ≡ true → spanOf s ≤ length out → entriesTo (suc f) s out ≡ Made (callIn s (lentIn s out)) (lentIn s out) (sizeOf s) ∷ entriesTo f (drop (sizeOf s) s) (drop (spanOf s) out)
 unfolding entriesTo
 more-entries f s out e l = rw (le-ltb (length out) (spanOf s) l, e)
+
+-- the first call of the list is the one that the script begins with
+first-call : (f : ℕ) (s out : Bytes) → length s ≤ f → isCall s ≡ true → spanOf s ≤ length out → (C : ℕ) (cs : List Call) → callsIn (entriesTo f s out) ≡ Start C ∷ cs → callIn s (lentIn s out) ≡ Start C
+unfolding callsIn
+first-call zero s out l c v C cs e = absurd (omega (arith, call-inside s c .0, call-inside s c .1))
+first-call (suc f) s out l c v C cs e = let x : callIn s (lentIn s out) ∷ callsIn (entriesTo f (drop (sizeOf s) s) (drop (spanOf s) out)) ≡ Start C ∷ cs = sym (ap callsIn (more-entries f s out c v)) ∙ e in cc
+
+cons-nothing : {c : Call} {cs : List Call} → _≡_ {A = List Call} [] (c ∷ cs) → ⊥
+cons-nothing e = let z : _≡_ {A = ℕ} 0 1 = cc in omega arith
 
 record ByLedger (room : ℕ) (S : State) (es : List Entry) (out q out′ : Bytes) (w k m : ℕ) : Type 0 where
   text : out′ ≡ textOf es (answers room S (callsIn es)) ++ drop w out
@@ -81,25 +91,60 @@ module _ (room : ℕ) where
           holds = i .holds;
         }
 
+  -- a call was made on p, and answered as from S; the rest of the run was as the ledger from there
+  made-from : (S : State) (s p out q r out′ : Bytes) (a : Answer) (w k m : ℕ) → isCall s ≡ true → spanOf s ≤ length out → length (recorded (callIn s (lentIn s out)) (lentIn s out) a) ≡ spanOf s
+      → (a ≡ step room S (callIn s (lentIn s out)) .0) × Holds q (step room S (callIn s (lentIn s out)) .1)
+      → ((f : ℕ) → length (drop (sizeOf s) s) ≤ f → Holds q (step room S (callIn s (lentIn s out)) .1)
+      → ByLedger room (step room S (callIn s (lentIn s out)) .1) (entriesTo f (drop (sizeOf s) s) (drop (spanOf s) out)) (drop (spanOf s) out) r out′ w k m)
+      → (f : ℕ) → length s ≤ f → ByLedger room S (entriesTo f s out) out r (recorded (callIn s (lentIn s out)) (lentIn s out) a ++ out′) (spanOf s + w) (sizeOf s + k) (suc m)
+  made-from S s p out q r out′ a w k m c v len g on zero l = absurd (omega (arith, call-inside s c .0, call-inside s c .1))
+  made-from S s p out q r out′ a w k m c v len g on (suc f) l =
+      subst (λ (es : List Entry). ByLedger room S es out r (recorded (callIn s (lentIn s out)) (lentIn s out) a ++ out′) (spanOf s + w) (sizeOf s + k) (suc m)) (sym (more-entries f s out c v))
+      (more-made S s out r out′ a w k m (entriesTo f (drop (sizeOf s) s) (drop (spanOf s) out)) (g .0) len
+      (on f (omega (arith, length-drop (sizeOf s) s, call-inside s c .0, call-inside s c .1)) (g .1)))
+
   by-ledger : {s p out q out′ : Bytes} {w k m : ℕ} → Scripted s p out q out′ w k m → (S : State) → room ≡ length p → Holds p S → (f : ℕ) → length s ≤ f → ByLedger room S (entriesTo f s out) out q out′ w k m
   by-ledger (ended {p} {out}) S e h f l = subst (λ (es : List Entry). ByLedger room S es out p out 0 0 0) (sym (no-entries f out)) (none-made S p out h)
   by-ledger (full {s} {p} {out} r) S e h f l = subst (λ (es : List Entry). ByLedger room S es out p out 0 0 0) (sym (full-entries f s out r)) (none-made S p out h)
-  by-ledger (strange {s} {p} {out} z c r) S e h f l = subst (λ (es : List Entry). ByLedger room S es out p (unread ++ drop replySize out) replySize 0 0) (sym (strange-entries f s out z l c r)) (unread-made S p out h)
-  by-ledger (made {s} {p} {out} {q} {r} {out′} {a} {w} {k} {m} c v ran len rest) S e h zero l = absurd (omega (arith, call-inside s c .0, call-inside s c .1))
-  by-ledger (made {s} {p} {out} {q} {r} {out′} {a} {w} {k} {m} c v ran len rest) S e h (suc f) l =
+  by-ledger (strange {s} {p} {out} z c r) S e h f l =
+      subst (λ (es : List Entry). ByLedger room S es out p (unread ++ drop replySize out) replySize 0 0) (sym (strange-entries f s out z l c r)) (unread-made S p out h)
+  by-ledger (made {s} {p} {out} {q} {r} {out′} {a} {w} {k} {m} c v ran len rest) S e h f l =
       let call = callIn s (lentIn s out) in
-      let lent = lentIn s out in
       let g : (a ≡ step room S call .0) × Holds q (step room S call .1) = subst (λ (n : ℕ). (a ≡ step n S call .0) × Holds q (step n S call .1)) (sym e) (ran .ledger S h) in
-      let i = by-ledger rest (step room S call .1) (e ∙ sym (ran .sized)) (g .1) f (omega (arith, length-drop (sizeOf s) s, call-inside s c .0, call-inside s c .1)) in
-      subst (λ (es : List Entry). ByLedger room S es out r (recorded call lent a ++ out′) (spanOf s + w) (sizeOf s + k) (suc m)) (sym (more-entries f s out c v))
-      (more-made S s out r out′ a w k m (entriesTo f (drop (sizeOf s) s) (drop (spanOf s) out)) (g .0) len i)
+      made-from S s p out q r out′ a w k m c v len g (λ f′ l′ h′. by-ledger rest (step room S call .1) (e ∙ sym (ran .sized)) h′ f′ l′) f l
+
+  -- a start minds no bytes
+  start-from : (C : ℕ) (p q : Bytes) (a : Answer) → room ≡ length p → startRefusal room C ≡ 0 → Ran (Start C) p a q → (a ≡ step room (empty C) (Start C) .0) × Holds q (step room (empty C) (Start C) .1)
+  start-from C p q a e z ran =
+      let b = ran .begun .0 (ap (λ (n : ℕ). startRefusal n C) (sym e) ∙ z) in
+      subst (λ (x : Answer × State). (a ≡ x .0) × Holds q (x .1)) (sym (changed-made (startRefusal room C) (empty C) (empty C) z)) b
+
+  by-start : {s p out q out′ : Bytes} {w k m : ℕ} → Scripted s p out q out′ w k m → (C : ℕ) (cs : List Call) → room ≡ length p → startRefusal room C ≡ 0 → (f : ℕ) → length s ≤ f
+      → callsIn (entriesTo f s out) ≡ Start C ∷ cs → ByLedger room (empty C) (entriesTo f s out) out q out′ w k m
+  unfolding callsIn
+  by-start (ended {p} {out}) C cs e z f l ec = absurd (cons-nothing (sym (ap callsIn (no-entries f out)) ∙ ec))
+  by-start (full {s} {p} {out} r) C cs e z f l ec = absurd (cons-nothing (sym (ap callsIn (full-entries f s out r)) ∙ ec))
+  by-start (strange {s} {p} {out} y c r) C cs e z f l ec = absurd (cons-nothing (sym (ap callsIn (strange-entries f s out y l c r)) ∙ ec))
+  by-start (made {s} {p} {out} {q} {r} {out′} {a} {w} {k} {m} c v ran len rest) C cs e z f l ec =
+      let call = callIn s (lentIn s out) in
+      let is : call ≡ Start C = first-call f s out l c v C cs ec in
+      let g : (a ≡ step room (empty C) call .0) × Holds q (step room (empty C) call .1) =
+      subst (λ (x : Call). (a ≡ step room (empty C) x .0) × Holds q (step room (empty C) x .1)) (sym is) (start-from C p q a e z (subst (λ (x : Call). Ran x p a q) is ran)) in
+      made-from (empty C) s p out q r out′ a w k m c v len g (λ f′ l′ h′. by-ledger rest (step room (empty C) call .1) (e ∙ sym (ran .sized)) h′ f′ l′) f l
 
 -- the promise of a run
+from-ledger : (S : State) (s p out q out′ : Bytes) (w k m : ℕ) → ByLedger (length p) S (entriesTo (length s) s out) out q out′ w k m
+    → FromLedger S s p out (record { number = 0; count = 3; first = w; second = k; third = m }) out′ q
+from-ledger S s p out q out′ w k m i = record {
+  reply = rw (i .written, i .read, i .many);
+  output = i .text ∙ ap (λ (n : ℕ). textOf (entriesTo (length s) s out) (answers (length p) S (callsIn (entriesTo (length s) s out))) ++ drop n out) (i .written);
+  holds = i .holds;
+}
+
 pub run-as : (s p out q out′ : Bytes) (w k m : ℕ) (r : Reply) → r ≡ record { number = 0; count = 3; first = w; second = k; third = m } → Scripted s p out q out′ w k m → RunAs s p out r out′ q
 run-as s p out q out′ w k m r er x = subst (λ (y : Reply). RunAs s p out y out′ q) (sym er) (record {
+  ledger = λ S h. from-ledger S s p out q out′ w k m (by-ledger (length p) x S refl h (length s) (omega arith));
+  begun = λ C cs ec z. from-ledger (empty C) s p out q out′ w k m (by-start (length p) x C cs refl z (length s) (omega arith) ec);
   ran = x;
   reply = refl;
-  ledger = λ S h.
-      let i = by-ledger (length p) x S refl h (length s) (omega arith) in
-      (rw (i .written, i .read, i .many), i .text ∙ ap (λ (n : ℕ). textOf (entriesTo (length s) s out) (answers (length p) S (callsIn (entriesTo (length s) s out))) ++ drop n out) (i .written), i .holds);
 })

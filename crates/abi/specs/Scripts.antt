@@ -10,8 +10,8 @@ use lib.Dec.{eqb, ltb}
 use lib.ListN.{length, take, drop}
 use Rattle.iri.specs.Answers.{Answer, answer}
 use Rattle.model.specs.Sets.{Bytes}
-use Rattle.model.specs.Package.{State}
-use Rattle.model.specs.Calls.{Find, View, Totals, Call, Start, Looks, Changes, Prints, refused, answers, after}
+use Rattle.model.specs.Package.{State, empty}
+use Rattle.model.specs.Calls.{Find, View, Totals, Call, Start, Looks, Changes, Prints, refused, startRefusal, answers, after}
 use Rattle.contract.specs.Holds.{Holds}
 use Rattle.contract.specs.Ran.{Ran}
 use Rattle.script.specs.Numbers.{le8}
@@ -109,11 +109,18 @@ pub data Scripted : Bytes → Bytes → Bytes → Bytes → Bytes → ℕ → �
       → length (recorded (callIn s (lentIn s out)) (lentIn s out) a) ≡ spanOf s → Scripted (drop (sizeOf s) s) q (drop (spanOf s) out) r out′ w k m
       → Scripted s p out r (recorded (callIn s (lentIn s out)) (lentIn s out) a ++ out′) (spanOf s + w) (sizeOf s + k) (suc m)
 
+-- the reply r, the output and the package that a run left are those of the ledger's answers from S on
+pub record FromLedger (S : State) (s p out : Bytes) (r : Reply) (out′ q : Bytes) : Type 0 where
+  pub reply : r ≡ replyOf (runAnswer (length p) S s out)
+  pub output : out′ ≡ runAnswer (length p) S s out .output
+  pub holds : Holds q (after (length p) S (callsIn (entries s out)))
+
 -- THE PROMISE of a run
 pub record RunAs (s p out : Bytes) (r : Reply) (out′ q : Bytes) : Type 0 where
-  -- on any bytes: every call of the script was made, each in its turn, and its answer written
+  -- whatever abstract package the bytes hold, the run goes as the ledger does from there
+  pub ledger : (S : State) → Holds p S → FromLedger S s p out r out′ q
+  -- demand 3: on any bytes, where the first call is a start and is accepted, the run goes as the ledger does that begins with C and empty sets
+  pub begun : (C : ℕ) (cs : List Call) → callsIn (entries s out) ≡ Start C ∷ cs → startRefusal (length p) C ≡ 0 → FromLedger (empty C) s p out r out′ q
+  -- and on any bytes every call of the script was made, each in its turn, and its answer written
   pub ran : Scripted s p out q out′ (r .first) (r .second) (r .third)
   pub reply : r ≡ replyOf (answer 0 (r .first ∷ r .second ∷ r .third ∷ []) out′)
-  -- whatever abstract package the bytes hold, the reply and the output are those of the ledger's answers, and the bytes hold the ledger after the list
-  pub ledger : (S : State) → Holds p S → (r ≡ replyOf (runAnswer (length p) S s out)) × (out′ ≡ runAnswer (length p) S s out .output)
-      × Holds q (after (length p) S (callsIn (entries s out)))
