@@ -15,4 +15,5 @@ returns : tie.Need-returns
 returns c = copied-some _ _ _ _ (c .before .before .before .before .before .smaller .ensures .0) (c .before .before .copy-in .ensures)
 
 pub copy-some-spec : {M : Type 1} → statement M
-copy-some-spec = tie.close (tie.spec (λ c κs. search needs) slice-aggregate-copy-in copy-in-requires (λ c. search needs) returns)
+copy-some-spec = tie.close (tie.spec
+    (λ c κs. search needs) slice-aggregate-copy-in copy-in-requires (λ c. search needs) returns)

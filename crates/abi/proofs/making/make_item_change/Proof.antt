@@ -4,29 +4,11 @@ use borrow.Author.Needs.{needs}
 use Rattle.abi.proofs.making.make_item_change.Statement.{statement}
 use Rattle.abi.proofs.making.make_item_change.Tie as tie
 
-opc-start-requires : tie.Need-opc-start-requires
-opc-start-requires c κs = search needs
-
-same-length : tie.Need-same-length
-same-length c = search needs
-
 returns : tie.Need-returns
 returns c = record { is = λ lent. told-coded 1 _ _ _ _ _ _ _ _ _ _ _ _ (c .before .before .before .before .if1 .taken) (told-start (c .before .before .opc-start .ensures) lent) }
 
-opc-put-item-requires : tie.Need-opc-put-item-requires
-opc-put-item-requires c κs = search needs
-
-same-length-2 : tie.Need-same-length-2
-same-length-2 c = search needs
-
 returns-2 : tie.Need-returns-2
 returns-2 c = record { is = λ lent. told-coded 2 _ _ _ _ _ _ _ _ _ _ _ _ (c .before .before .before .before .if2 .taken) (told-change (c .before .before .opc-put-item .ensures) lent) }
-
-opc-drop-item-requires : tie.Need-opc-drop-item-requires
-opc-drop-item-requires c κs = search needs
-
-same-length-3 : tie.Need-same-length-3
-same-length-3 c = search needs
 
 returns-3 : tie.Need-returns-3
 returns-3 c = record { is = λ lent. told-coded 3 _ _ _ _ _ _ _ _ _ _ _ _ (omega arith) (told-change (c .before .before .opc-drop-item .ensures) lent) }
@@ -35,12 +17,9 @@ pub make-item-change-spec : {M : Type 1} → statement M
 make-item-change-spec =
     tie.close
     (tie.spec
-    opc-start-requires
-    same-length
+    (λ c κs. search needs) (λ c. search needs)
     returns
-    opc-put-item-requires
-    same-length-2
+    (λ c κs. search needs) (λ c. search needs)
     returns-2
-    opc-drop-item-requires
-    same-length-3
+    (λ c κs. search needs) (λ c. search needs)
     returns-3)

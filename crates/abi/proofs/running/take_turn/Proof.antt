@@ -5,55 +5,27 @@ use borrow.Author.Needs.{needs}
 use Rattle.abi.proofs.running.take_turn.Statement.{statement}
 use Rattle.abi.proofs.running.take_turn.Tie as tie
 
-next-call-requires : tie.Need-next-call-requires
-next-call-requires c κs = search needs
-
-enum-known-h : tie.Need-enum-known-h
-enum-known-h c = search needs
-
 make-next-requires : tie.Need-make-next-requires
-make-next-requires c κs = read-call _ _ _ (c .before .before .before .before .before .next-call .ensures) (c .before .before .before .h .given .1)
-
-enum-told : tie.Need-enum-told
-enum-told c = search needs
+make-next-requires c κs =
+    let at-h = c .before .before .before in
+    let at-next-call = at-h .before .before in
+    read-call _ _ _ (at-next-call .next-call .ensures) (at-h .h .given .1)
 
 returns : tie.Need-returns
 returns c = no-room-for-16 _ _ _ (read-nothing _ _ (c .before .before .before .next-call .ensures) (c .before .enum-told .given .1)) (c .if1 .taken)
 
-one-requires : tie.Need-one-requires
-one-requires c κs = search needs
-
-put-reply-requires : tie.Need-put-reply-requires
-put-reply-requires c κs = search needs
-
-same-length : tie.Need-same-length
-same-length c = search needs
-
-same-length-2 : tie.Need-same-length-2
-same-length-2 c = search needs
-
-returns-2 : tie.Need-returns-2
-returns-2 c = search needs
-
-same-length-3 : tie.Need-same-length-3
-same-length-3 c = search needs
-
 returns-3 : tie.Need-returns-3
-returns-3 c = no-call _ _ _ (read-nothing _ _ (c .before .before .before .before .before .before .before .before .next-call .ensures) (c .before .before .before .before .before .before .enum-told .given .1)) (omega (arith, c .before .before .before .before .before .if1 .left)) _ (c .before .before .before .one .ensures) _ (c .before .before .put-reply .ensures)
+returns-3 c =
+    let at-put-reply = c .before .before in
+    let at-one = at-put-reply .before in
+    let at-if1 = at-one .before .before in
+    let at-enum-told = at-if1 .before in
+    let at-next-call = at-enum-told .before .before in
+    no-call _ _ _ (read-nothing _ _ (at-next-call .next-call .ensures) (at-enum-told .enum-told .given .1)) (omega (arith, at-if1 .if1 .left)) _ (at-one .one .ensures) _ (at-put-reply .put-reply .ensures)
 
 pub take-turn-spec : {M : Type 1} → statement M
 take-turn-spec =
     tie.close
     (tie.spec
-    next-call-requires
-    enum-known-h
-    make-next-requires
-    enum-told
-    returns
-    one-requires
-    put-reply-requires
-    same-length
-    same-length-2
-    returns-2
-    same-length-3
-    returns-3)
+    (λ c κs. search needs) (λ c. search needs) make-next-requires (λ c. search needs) returns (λ c κs. search needs) (λ c κs. search needs) (λ c. search needs) (λ c. search needs) (λ c. search needs)
+    (λ c. search needs) returns-3)
