@@ -2,7 +2,6 @@
 ghost use mathlib.Core.Path.{_≡_};
 ghost use Prim.Native.Nat.{_+_};
 ghost use lib.ListN.{getD, drop};
-ghost use Rattle.chars.specs.Bytes.{letter, digit, hexDigit};
 ghost use Rattle.chars.specs.Lists.{indexOf, afterLast, lacks};
 
 // The sets of bytes that texts are made of, or searched for.
@@ -13,24 +12,6 @@ pub enum Alphabet {
     SchemeEnd,
     AuthorityEnd,
     PathEnd,
-}
-
-pub fn is_letter(b: u8) -> bool
-    ensures { λ r. ⌜ r ≡ letter b ⌝ }
-{
-    ((b'A' <= b) & (b <= b'Z')) | ((b'a' <= b) & (b <= b'z'))
-}
-
-pub fn is_digit(b: u8) -> bool
-    ensures { λ r. ⌜ r ≡ digit b ⌝ }
-{
-    (b'0' <= b) & (b <= b'9')
-}
-
-pub fn is_hex_digit(b: u8) -> bool
-    ensures { λ r. ⌜ r ≡ hexDigit b ⌝ }
-{
-    is_digit(b) | ((b'A' <= b) & (b <= b'F')) | ((b'a' <= b) & (b <= b'f'))
 }
 
 // Past the end stands 0, which is in no class.

@@ -15,6 +15,7 @@ pub mod Sources
 pub mod PartNamePaths
 pub mod Fragments
 pub mod RoundTrip
+pub mod PackIris
 pub mod LastBytes
 pub mod Foldings
 pub mod FoldedNames

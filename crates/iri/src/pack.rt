@@ -7,10 +7,11 @@ use chars::folding::is_equivalent;
 use chars::search::byte_at;
 use chars::search::find;
 use chars::search::has_no;
-use chars::search::is_hex_digit;
 use chars::units::hex_value;
 use names::iris::is_package_iri;
 use names::parts::is_part_name;
+use names::table::is_hex_digit;
+use names::table::table;
 ghost use mathlib.Core.Path.{_≡_};
 ghost use mathlib.Core.List.{_++_};
 ghost use Prim.Native.Nat.{_+_, _≤_};
@@ -18,6 +19,7 @@ ghost use mathlib.Core.Bool.{_||_, cond};
 ghost use lib.Dec.{ltb};
 ghost use lib.ListN.{length};
 ghost use Rattle.chars.specs.Bytes.{ascii};
+ghost use Rattle.chars.specs.Classes.{classes};
 ghost use Rattle.chars.specs.Lists.{none};
 ghost use Rattle.chars.specs.Characters.{stands};
 ghost use Rattle.chars.specs.Folding.{equivalent};
@@ -142,10 +144,11 @@ fn slash(b: u8) -> u8
 }
 
 // What a triplet below %80 stands for; 128 where a b c is none.
-fn low_triplet(a: u8, b: u8, c: u8) -> u8
+fn low_triplet(t: &[u8; 256], a: u8, b: u8, c: u8) -> u8
+    requires { ⌜ now t ≡ classes ⌝ }
     ensures { λ r. ⌜ r ≡ cond (lowTriplet a b c) (stands b c) 128 ⌝ }
 {
-    if (a == b'%') & is_hex_digit(b) & is_hex_digit(c) {
+    if (a == b'%') & is_hex_digit(t, b) & is_hex_digit(t, c) {
         let v = 16 * hex_value(b) + hex_value(c);
         if v < 128 {
             return v;
@@ -173,9 +176,8 @@ fn encoded_len(v: u8) -> usize
     1
 }
 
-// Writes the package IRI that an authority stands for to the start of out, and says its length. What follows it in out is scratch.
-fn decode(s: &[u8], out: &mut [u8]) -> usize
-    requires { ⌜ (length (now s) ≤ length (now out)) × (length (now s) ≤ 4096) ⌝ }
+fn decode_by(t: &[u8; 256], s: &[u8], out: &mut [u8]) -> usize
+    requires { ⌜ (now t ≡ classes) × (length (now s) ≤ length (now out)) × (length (now s) ≤ 4096) ⌝ }
     ensures { λ r. ⌜ Decoded (now (s .entry)) r (now (out .exit)) ⌝ }
 {
     let mut i = 0;
@@ -184,12 +186,21 @@ fn decode(s: &[u8], out: &mut [u8]) -> usize
         let a = slash(byte_at(s, i));
         let b = slash(byte_at(s, i + 1));
         let c = slash(byte_at(s, i + 2));
-        let v = low_triplet(a, b, c);
+        let v = low_triplet(t, a, b, c);
         out[o] = decoded_byte(v, a);
         i += encoded_len(v);
         o += 1;
     }
     o
+}
+
+// Writes the package IRI that an authority stands for to the start of out, and says its length. What follows it in out is scratch.
+fn decode(s: &[u8], out: &mut [u8]) -> usize
+    requires { ⌜ (length (now s) ≤ length (now out)) × (length (now s) ≤ 4096) ⌝ }
+    ensures { λ r. ⌜ Decoded (now (s .entry)) r (now (out .exit)) ⌝ }
+{
+    let t = table();
+    decode_by(&t, s, out)
 }
 
 fn is_pack(s: &[u8]) -> bool

@@ -2,13 +2,13 @@
 use crate::members::all_members;
 use crate::members::first_by;
 use crate::members::first_member;
+use crate::table::is_letter;
 use crate::table::table;
 use crate::units::all_units;
 use chars::search::Alphabet;
 use chars::search::byte_at;
 use chars::search::find;
 use chars::search::has_no;
-use chars::search::is_letter;
 use chars::units::Grammar;
 ghost use mathlib.Core.Path.{_≡_};
 ghost use Prim.Native.Nat.{_+_};
@@ -21,7 +21,7 @@ fn is_scheme(t: &[u8; 256], s: &[u8]) -> bool
     requires { ⌜ now t ≡ classes ⌝ }
     ensures { λ r. ⌜ r ≡ scheme (now (s .entry)) ⌝ }
 {
-    is_letter(byte_at(s, 0)) & all_members(t, Alphabet::Scheme, s)
+    is_letter(t, byte_at(s, 0)) & all_members(t, Alphabet::Scheme, s)
 }
 
 // What follows the first b.

@@ -1,12 +1,14 @@
 // Item names: a whole item, or a piece.
 use crate::parts::is_part_name;
+use crate::table::is_digit;
+use crate::table::table;
 use chars::folding::is_equivalent;
 use chars::search::byte_at;
 use chars::search::find;
 use chars::search::find_past;
-use chars::search::is_digit;
 ghost use mathlib.Core.Path.{_≡_};
 ghost use Rattle.chars.specs.Bytes.{ascii};
+ghost use Rattle.chars.specs.Classes.{classes};
 ghost use Rattle.chars.specs.Folding.{equivalent};
 ghost use Rattle.names.specs.Numbers.{numeral};
 ghost use Rattle.names.specs.Reading.{readNumber};
@@ -24,14 +26,15 @@ pub enum ItemName {
     Refused(u8),
 }
 
-fn read_number(s: &[u8]) -> usize
+fn read_number(t: &[u8; 256], s: &[u8]) -> usize
+    requires { ⌜ now t ≡ classes ⌝ }
     ensures { λ r. ⌜ r ≡ readNumber 0 (now (s .entry)) ⌝ }
 {
     let mut v: usize = 0;
     let mut i = 0;
     while i < s.len() {
         let b = s[i];
-        if is_digit(b) {
+        if is_digit(t, b) {
             if 999 < v {
                 return 10000;
             }
@@ -44,11 +47,12 @@ fn read_number(s: &[u8]) -> usize
     v
 }
 
-fn is_numeral(s: &[u8]) -> bool
+fn is_numeral(t: &[u8; 256], s: &[u8]) -> bool
+    requires { ⌜ now t ≡ classes ⌝ }
     ensures { λ r. ⌜ r ≡ numeral (now (s .entry)) ⌝ }
 {
     let n = s.len();
-    (n != 0) & ((n == 1) | (byte_at(s, 0) != b'0')) & (read_number(s) <= 9999)
+    (n != 0) & ((n == 1) | (byte_at(s, 0) != b'0')) & (read_number(t, s) <= 9999)
 }
 
 fn is_piece(s: &[u8]) -> bool
@@ -64,17 +68,18 @@ fn is_last_piece(s: &[u8]) -> bool
 }
 
 // What follows a name's last slash, where it begins with [. `Whole`: it makes no suffix.
-fn read_suffix(t: &[u8]) -> Suffix
-    ensures { λ r. ⌜ r ≡ suffix (now (t .entry)) ⌝ }
+fn read_suffix(s: &[u8]) -> Suffix
+    ensures { λ r. ⌜ r ≡ suffix (now (s .entry)) ⌝ }
 {
-    let e = find(t, 0, b']');
+    let e = find(s, 0, b']');
     if e == 0 {
         return Suffix::Whole;
     }
     let one = 1;
-    let l = is_last_piece(&t[e..]);
-    if is_numeral(&t[one..e]) & (is_piece(&t[e..]) | l) {
-        return Suffix::Piece(read_number(&t[one..e]), l);
+    let t = table();
+    let l = is_last_piece(&s[e..]);
+    if is_numeral(&t, &s[one..e]) & (is_piece(&s[e..]) | l) {
+        return Suffix::Piece(read_number(&t, &s[one..e]), l);
     }
     Suffix::Whole
 }

@@ -3,6 +3,6 @@ pub mod iris;
 pub mod items;
 pub mod members;
 pub mod parts;
-mod table;
+pub mod table;
 pub mod types;
 mod units;

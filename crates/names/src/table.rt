@@ -1,5 +1,6 @@
 // The class of each byte value.
 ghost use mathlib.Core.Path.{_≡_};
+ghost use Rattle.chars.specs.Bytes.{letter, digit, hexDigit};
 ghost use Rattle.chars.specs.Classes.{classes, Classed};
 
 // 0 digit, 1 A-F a-f, 2 other letter, 3 - and ., 4 _, 5 ~, 6 +, 7 ! $ & ' *, 8 ( ) , ; = @, 9 :, 10 /, 11 ?, 12 #, 13 %, 14 ^ ` |,
@@ -24,7 +25,7 @@ const CLASS: [u8; 256] = [
 ];
 
 // The table, for a caller to lend to all its lookups: a constant is laid out anew wherever it is named.
-pub(crate) fn table() -> [u8; 256]
+pub fn table() -> [u8; 256]
     ensures { λ r. ⌜ r ≡ classes ⌝ }
 {
     CLASS
@@ -35,4 +36,26 @@ pub(crate) fn class(t: &[u8; 256], b: u8) -> u8
     ensures { λ r. ⌜ Classed b r ⌝ }
 {
     t[b as usize]
+}
+
+pub(crate) fn is_digit(t: &[u8; 256], b: u8) -> bool
+    requires { ⌜ now t ≡ classes ⌝ }
+    ensures { λ r. ⌜ r ≡ digit b ⌝ }
+{
+    class(t, b) == 0
+}
+
+pub fn is_hex_digit(t: &[u8; 256], b: u8) -> bool
+    requires { ⌜ now t ≡ classes ⌝ }
+    ensures { λ r. ⌜ r ≡ hexDigit b ⌝ }
+{
+    class(t, b) <= 1
+}
+
+pub(crate) fn is_letter(t: &[u8; 256], b: u8) -> bool
+    requires { ⌜ now t ≡ classes ⌝ }
+    ensures { λ r. ⌜ r ≡ letter b ⌝ }
+{
+    let k = class(t, b);
+    (1 <= k) & (k <= 2)
 }

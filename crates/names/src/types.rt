@@ -1,12 +1,12 @@
 // Media types, extensions, relationship ids.
 use crate::members::all_members;
+use crate::table::is_letter;
 use crate::table::table;
 use crate::units::all_units;
 use chars::search::Alphabet;
 use chars::search::byte_at;
 use chars::search::find;
 use chars::search::has_no;
-use chars::search::is_letter;
 use chars::units::Grammar;
 ghost use mathlib.Core.Path.{_≡_};
 ghost use Rattle.chars.specs.Classes.{classes};
@@ -55,5 +55,5 @@ pub fn is_id(s: &[u8]) -> bool
     }
     let t = table();
     let b = byte_at(s, 0);
-    (1 <= n) & (is_letter(b) | (b == b'_')) & all_members(&t, Alphabet::Id, s)
+    (1 <= n) & (is_letter(&t, b) | (b == b'_')) & all_members(&t, Alphabet::Id, s)
 }

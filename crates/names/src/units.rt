@@ -1,7 +1,7 @@
 // Units: a byte that stands for itself, a triplet, a character of ucschar.
 use crate::table::class;
+use crate::table::is_hex_digit;
 use chars::search::byte_at;
-use chars::search::is_hex_digit;
 use chars::units::Grammar;
 use chars::units::hex_value;
 ghost use mathlib.Core.Path.{_≡_};
@@ -40,8 +40,8 @@ fn is_name_triplet(t: &[u8; 256], b: u8, c: u8) -> bool
     requires { ⌜ now t ≡ classes ⌝ }
     ensures { λ r. ⌜ r ≡ nameTriplet b c ⌝ }
 {
-    if is_hex_digit(b) {
-        if is_hex_digit(c) {
+    if is_hex_digit(t, b) {
+        if is_hex_digit(t, c) {
             let v = 16 * hex_value(b) + hex_value(c);
             return (v != 0x2F) & (v != 0x5C) & !is_unreserved(t, v);
         }
@@ -55,7 +55,7 @@ fn is_triplet(t: &[u8; 256], g: Grammar, b: u8, c: u8) -> bool
 {
     match g {
         Grammar::Segment => is_name_triplet(t, b, c),
-        Grammar::Iri => is_hex_digit(b) & is_hex_digit(c),
+        Grammar::Iri => is_hex_digit(t, b) & is_hex_digit(t, c),
     }
 }
 

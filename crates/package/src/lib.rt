@@ -1,1 +1,1 @@
-// The calls on a package, gathered; specs/Demand.antt says what holds of every list of them.
+// No code: specs/Demand.antt says what holds of every call, every buffer and every list of calls, and proofs/ proves it.

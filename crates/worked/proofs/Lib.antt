@@ -1,1 +1,2 @@
 pub mod WorkedList
+pub mod MoreLists

@@ -20,7 +20,7 @@ use Rattle.contract.specs.Ran.{Ran}
 use Rattle.relationships.specs.Resolutions.{ofResolution}
 use Rattle.relationships.specs.declared.resolving.Resolution.{Resolution}
 use Rattle.relationships.specs.declared.resolving.Resolution.the-variants as resolution
-use Rattle.worked.specs.Led.{ledText, ledTo}
+use Rattle.worked.specs.Last.{ledText, ledTo}
 
 -- the calls after the start
 abbrev pub worked : List Call

@@ -1,18 +1,33 @@
-// Worked lists of calls: what the last one answers follows from the theorem over every list.
+// Worked lists of calls: what the last one answers follows from the theorem over every list. Every call of the ledger stands in one of them.
 use contract::answers::Found;
+use contract::answers::Totalled;
+use iri::writing::Written;
+use items::calls::drop_item;
 use items::calls::find_item;
 use items::calls::put_item;
 use items::calls::start;
+use items::calls::view_item;
+use parts::positions::part_at;
+use parts::reading::read_part;
+use parts::totals::totals;
+use relationships::calls::drop_relationship;
 use relationships::calls::put_relationship;
 use relationships::resolving::Resolution;
 use relationships::resolving::resolve_relationship;
+use streams::calls::write_relationships;
 use streams::calls::write_types;
+use types::calls::drop_default;
+use types::calls::drop_override;
 use types::calls::put_default;
+use types::calls::put_override;
+use types::media::media_type;
 ghost use mathlib.Core.Path.{_≡_};
 ghost use Prim.Native.Nat.{_≤_};
 ghost use lib.ListN.{length};
+ghost use Rattle.chars.specs.Bytes.{ascii};
+ghost use Rattle.iri.specs.Answers.{ofWritten};
 ghost use Rattle.relationships.specs.Resolutions.{ofResolution};
-ghost use Rattle.worked.specs.Led.{ledTo};
+ghost use Rattle.worked.specs.Last.{ledTo, wrote, typedAs, joinedFrom, linkedText};
 
 // A tile is put, the same name in capitals is refused, pieces of another tile follow: the first tile is found, five bytes long.
 fn worked(p: &mut [u8]) -> Found
@@ -45,6 +60,90 @@ fn led(p: &mut [u8], types: &mut [u8], out: &mut [u8]) -> Resolution
     )
 }
 
+// Of two tiles and a Default, one tile and the Default are dropped: one item, one part, and the charge of that item.
+fn counted(p: &mut [u8]) -> Totalled
+    requires { ⌜ 33000 ≤ length (now p) ⌝ }
+    ensures { λ r. ⌜ r ≡ Totalled.Of 1 1 11 ⌝ }
+{
+    start(p, 100);
+    put_item(p, b"/a.tif", b"tile");
+    put_item(p, b"/b.tif", b"other");
+    put_default(p, b"tif", b"image/tiff");
+    drop_item(p, b"/A.TIF");
+    drop_default(p, b"TIF");
+    totals(p)
+}
+
+// An Override is put and dropped: the Default tells the tile's media type again.
+fn typed(p: &mut [u8], out: &mut [u8]) -> Written
+    requires { ⌜ (33000 ≤ length (now p)) × (10 ≤ length (now out)) ⌝ }
+    ensures { λ r. ⌜ ofWritten r (now (out .exit)) ≡ wrote typedAs (now (out .entry)) ⌝ }
+{
+    start(p, 100);
+    put_item(p, b"/a.tif", b"tile");
+    put_default(p, b"tif", b"image/tiff");
+    put_override(p, b"/A.TIF", b"image/png");
+    drop_override(p, b"/a.TIF");
+    media_type(p, b"/A.tif", out)
+}
+
+// The last piece comes first, and in capitals: from offset 1 on the part is read over both.
+fn joined(p: &mut [u8], name: &mut [u8], out: &mut [u8]) -> Written
+    requires { ⌜ (33000 ≤ length (now p)) × (3 ≤ length (now out)) ⌝ }
+    ensures { λ r. ⌜ ofWritten r (now (out .exit)) ≡ wrote joinedFrom (now (out .entry)) ⌝ }
+{
+    start(p, 100);
+    put_item(p, b"/T/[1].LAST.piece", b"cd");
+    put_item(p, b"/t/[0].piece", b"ab");
+    part_at(p, 0, name);
+    read_part(p, b"/T", 1, out)
+}
+
+// Another spelling of the tile's name is refused, and a name that grows out of it: the tile is viewed as it was put.
+fn viewed(p: &mut [u8]) -> &[u8]
+    requires { ⌜ 33000 ≤ length (now p) ⌝ }
+    ensures { λ r. ⌜ now r ≡ ascii "hello" ⌝ }
+{
+    start(p, 100);
+    put_item(p, b"/a", b"hello");
+    put_item(p, b"/A", b"other");
+    put_item(p, b"/a/b", b"grown");
+    let t = &p[..];
+    view_item(t, b"/A")
+}
+
+// Of two relationships one is dropped, by another spelling of their source: the other is written.
+fn linked(p: &mut [u8], out: &mut [u8]) -> Written
+    requires { ⌜ (33000 ≤ length (now p)) × (218 ≤ length (now out)) ⌝ }
+    ensures { λ r. ⌜ ofWritten r (now (out .exit)) ≡ wrote linkedText (now (out .entry)) ⌝ }
+{
+    start(p, 100);
+    put_relationship(p, b"/s", b"r1", b"a:tile", 0, b"t");
+    put_relationship(p, b"/s", b"r2", b"a:tile", 1, b"u&v");
+    drop_relationship(p, b"/S", b"r1");
+    write_relationships(p, b"/S", out)
+}
+
+// The outputs of the lists are as long as what is written to them.
+fn run_writers(p: &mut [u8])
+    requires { ⌜ 33000 ≤ length (now p) ⌝ }
+{
+    let mut types = [0u8; 300];
+    let mut pack = [0u8; 48];
+    led(p, &mut types, &mut pack);
+    check::expect(pack[47] == b'l');
+    let mut media = [0u8; 10];
+    typed(p, &mut media);
+    check::expect(media[9] == b'f');
+    let mut name = [0u8; 2];
+    let mut content = [0u8; 3];
+    joined(p, &mut name, &mut content);
+    check::expect(content[2] == b'd');
+    let mut links = [0u8; 218];
+    linked(p, &mut links);
+    check::expect(links[217] == b'\n');
+}
+
 fn main() {
     let mut p = [0u8; 33000];
     let Found::Length(n) = worked(&mut p) else {
@@ -52,8 +151,16 @@ fn main() {
         return;
     };
     check::expect(n == 5);
-    let mut types = [0u8; 300];
-    let mut out = [0u8; 48];
-    led(&mut p, &mut types, &mut out);
-    check::expect(out[47] == b'l');
+    let Totalled::Of {
+        items,
+        parts,
+        charge,
+    } = counted(&mut p)
+    else {
+        check::expect(false);
+        return;
+    };
+    check::expect((items == 1) & (parts == 1) & (charge == 11));
+    run_writers(&mut p);
+    check::expect(viewed(&mut p).len() == 5);
 }

@@ -12,10 +12,10 @@ use Rattle.names.proofs.items.read_number.Statement.{statement}
 use Rattle.names.proofs.items.read_number.Tie as tie
 
 abbrev Inv-loop : tie.InvT-loop
-Inv-loop s v₀ i₀ v i = (v ≤ 9999) × (readNumber 0 s ≡ readNumber v (drop i s))
+Inv-loop t s v₀ i₀ v i = (v ≤ 9999) × (readNumber 0 s ≡ readNumber v (drop i s))
 
 abbrev μ-loop : tie.MeasureT-loop
-μ-loop s v₀ i₀ v i = length s - i
+μ-loop t s v₀ i₀ v i = length s - i
 
 loop-holds : tie.Need-loop-holds Inv-loop μ-loop
 loop-holds c = (omega arith, refl)

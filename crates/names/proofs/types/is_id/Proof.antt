@@ -23,7 +23,7 @@ all-members-requires c κs = search needs
 
 returns-2 : tie.Need-returns-2
 unfolding identifier
-returns-2 c = rw (c .all-members .ensures, c .before .before .is-letter .ensures, c .before .before .before .byte-at .ensures, le-leb _ _ (c .before .before .before .before .before .if1 .left), and-right-true)
+returns-2 c = rw (c .all-members .ensures, c .before .before .is-letter .ensures, c .before .before .before .before .byte-at .ensures, le-leb _ _ (c .before .before .before .before .before .before .if1 .left), and-right-true)
 
 pub is-id-spec : {M : Type 1} → statement M
 is-id-spec =

@@ -7,14 +7,14 @@ use lib.ListN.{length, take, drop, length-set}
 use borrow.Author.Needs.{needs}
 use Rattle.iri.specs.Pack.{packageOf, decoded, slashed}
 use Rattle.iri.proofs.Decoding.{decode-start, one-or-three, decode-turn, decode-end}
-use Rattle.iri.proofs.pack.decode.Statement.{statement}
-use Rattle.iri.proofs.pack.decode.Tie as tie
+use Rattle.iri.proofs.pack.decode_by.Statement.{statement}
+use Rattle.iri.proofs.pack.decode_by.Tie as tie
 
 abbrev Inv-loop : tie.InvT-loop
-Inv-loop s out₀ i₀ o₀ out i o = (o ≤ i) × (o ≤ length s) × (length out ≡ length out₀) × (packageOf s ≡ take o out ++ decoded 0 (drop i (map slashed s)))
+Inv-loop t s out₀ i₀ o₀ out i o = (o ≤ i) × (o ≤ length s) × (length out ≡ length out₀) × (packageOf s ≡ take o out ++ decoded 0 (drop i (map slashed s)))
 
 abbrev μ-loop : tie.MeasureT-loop
-μ-loop s out₀ i₀ o₀ out i o = length s - i
+μ-loop t s out₀ i₀ o₀ out i o = length s - i
 
 loop-holds : tie.Need-loop-holds Inv-loop μ-loop
 loop-holds c = (omega arith, omega arith, refl, decode-start _)
@@ -73,8 +73,8 @@ same-length c = omega arith
 returns : tie.Need-returns Inv-loop μ-loop
 returns c = decode-end _ _ _ _ (c .loop-test .left) (c .before .loop .inv .1) (c .before .loop .inv .3)
 
-pub decode-spec : {M : Type 1} → statement M
-decode-spec =
+pub decode-by-spec : {M : Type 1} → statement M
+decode-by-spec =
     tie.close
     (tie.spec
     Inv-loop
