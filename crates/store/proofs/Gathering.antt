@@ -97,7 +97,7 @@ module _ (b l m : List ℕ) (n c e r k : ℕ) (g : Gathering b l c) (en : n ≡ 
       (λ w. ⊎-elim (λ a. absurd (ne a)) (λ q. ⊎-elim (λ a. inr (omega (arith, size))) (λ a. absurd (omega arith)) (g .sound .apart r i q h)) w) (three i r))
       (g .split i h)
 
-  move : Moved l m r c
+  pub move : Moved l m r c
   move =
       let o : ℕ = offOf (slotOf l r) in
       let b1 : List ℕ = splice l (heapStart + c) (part (heapStart + o) k l) in

@@ -16,4 +16,7 @@ pub mod Inserting
 pub mod Removing
 pub mod Scanning
 pub mod Moving
+pub mod Ordering
 pub mod Gathering
+pub mod Carrying
+pub mod Taking

@@ -6,7 +6,7 @@ use mathlib.Core.List.{List, _++_, append-assoc}
 use native.Mathlib.Omega.{arith}
 use native.Mathlib.Nat.{add-assoc}
 use lib.ListN.{length, take, drop, getD, length-append, length-take, length-drop, take-append-drop, List·getD-append}
-use lib.Seq.{length-take-le, take-add, getD-take, getD-drop, getD-append-add, ext-getD}
+use lib.Seq.{length-take-le, take-add, drop-drop, getD-take, getD-drop, getD-append-add, ext-getD}
 use Rattle.store.specs.Buffer.{part, splice}
 
 module _ (a n : ℕ) (l : List ℕ) where
@@ -25,6 +25,11 @@ module _ (a n : ℕ) (l : List ℕ) where
       ap (λ (k : ℕ). take a l ++ part a n l ++ drop (a + k) l) (length-part h)
       ∙ ap (λ (r : List ℕ). r ++ drop (a + n) l) (sym (take-add a n l))
       ∙ take-append-drop (a + n) l
+
+-- a part and the one behind it
+pub part-add : (a n k : ℕ) (l : List ℕ) → part a (n + k) l ≡ part a n l ++ part (a + n) k l
+unfolding part
+part-add a n k l = take-add n k (drop a l) ∙ ap (λ (r : List ℕ). take n (drop a l) ++ take k r) (drop-drop n a l)
 
 module _ (l : List ℕ) (a : ℕ) (s : List ℕ) where
   pub length-splice : a + length s ≤ length l → length (splice l a s) ≡ length l

@@ -21,7 +21,7 @@ pub scan-none : (b : List ℕ) (n c : ℕ) → Scanned b n c 0 n 4294967296
 scan-none b n c = record { best = inl (refl, omega arith); none = λ j h. absurd (omega arith) }
 
 -- j is below i + 1: below i, or i
-last : (j i : ℕ) → j < i + 1 → (j < i) ⊎ (j ≡ i)
+pub last : (j i : ℕ) → j < i + 1 → (j < i) ⊎ (j ≡ i)
 last j i h = ⊎-elim (λ q. inl q) (λ q. inr (omega arith)) (le-or-lt j i)
   where
     le-or-lt : (j i : ℕ) → (j < i) ⊎ (i ≤ j)

@@ -3,7 +3,8 @@
 use mathlib.Core.Path.{_≡_}
 use mathlib.Core.Logic.{_⊎_}
 use mathlib.Core.List.{List}
-use Prim.Native.Nat.{ℕ, _+_, _≤_, _<_}
+use Prim.Native.Nat.{ℕ, _+_, _-_, _≤_, _<_}
+use lib.ListN.{getD}
 use Rattle.store.specs.Buffer.{part, splice, le4}
 use Rattle.store.specs.Layout.{heapStart, heapSize, capOf, usedOf, endOf, slotAt, slotOf, offOf, sizeOf}
 use Rattle.store.specs.Rows.{rowsOf}
@@ -20,11 +21,24 @@ pub record Lowest (b : List ℕ) (n c r : ℕ) : Type 0 where
   pub above : r < n → c ≤ offOf (slotOf b r)
   pub least : (i : ℕ) → i < n → c ≤ offOf (slotOf b i) → (r < n) × (offOf (slotOf b r) ≤ offOf (slotOf b i))
 
+-- the first k entries of t are slots among the first n, each of a greater offset than those before
+pub record Ordered (b t : List ℕ) (n k : ℕ) : Type 0 where
+  pub named : (j : ℕ) → j < k → getD t j 0 < n
+  pub rising : (i j : ℕ) → i < j → j < k → offOf (slotOf b (getD t i 0)) < offOf (slotOf b (getD t j 0))
+
 -- m is b with the k bytes of row r moved down to c, where they lay before e
 pub record Settled (b m : List ℕ) (r c e k : ℕ) : Type 0 where
   pub fits : c + k ≤ e
   pub moved : offOf (slotOf b r) + sizeOf (slotOf b r) ≤ e
       → (k ≡ sizeOf (slotOf b r)) × (m ≡ splice (splice b (heapStart + c) (part (heapStart + offOf (slotOf b r)) k b)) (slotAt r) (le4 c))
+
+-- b with the q bytes at a in the heap moved down to end at c
+unfoldable pub carried : List ℕ → ℕ → ℕ → ℕ → List ℕ
+carried b a q c = splice b (heapStart + (c - q)) (part (heapStart + a) q b)
+
+-- x is how many of the q bytes at a still are to be moved: all, if the bytes at o go on with them, or none, and m is b with them moved down to end at c
+pub record Carried (b m : List ℕ) (a q c o x : ℕ) : Type 0 where
+  pub is : ((o ≡ a + q) × (x ≡ q) × (m ≡ b)) ⊎ ((x ≡ 0) × (m ≡ carried b a q c))
 
 -- m is b with its rows' bytes gathered or left where they were, so that k bytes more, if the capacity has them, fit at `at`
 pub record Placed (b m : List ℕ) (k at : ℕ) : Type 0 where

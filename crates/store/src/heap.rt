@@ -8,8 +8,10 @@ use crate::bytes::get4;
 use crate::bytes::put4;
 use crate::moves::copy_in;
 use crate::moves::move_down;
-use crate::slots::guesses;
-use crate::slots::next_lowest;
+use crate::order::is_ordered;
+use crate::order::order;
+use crate::runs::gather_runs;
+use crate::slots::lowest;
 use crate::slots::offset;
 use crate::slots::size;
 ghost use mathlib.Core.Path.{_≡_};
@@ -17,7 +19,7 @@ ghost use mathlib.Core.List.{_++_};
 ghost use Prim.Native.Nat.{_+_, _^_, _≤_, _<_};
 ghost use lib.ListN.{length};
 ghost use Rattle.store.specs.Buffer.{splice};
-ghost use Rattle.store.specs.Layout.{slotCount, heapStart, heapSize, slotOf, offOf};
+ghost use Rattle.store.specs.Layout.{slotCount, heapStart, heapSize, countOf, endOf, slotOf, offOf};
 ghost use Rattle.store.specs.Packages.{Shape, Sound, Gathered};
 ghost use Rattle.store.specs.Places.{EndWithout, Settled, Placed};
 
@@ -75,25 +77,37 @@ fn settle(pkg: &mut [u8], r: usize, c: usize, e: usize) -> usize
     k
 }
 
-// Gathers the rows' bytes at the heap's start, in the order in which they lie. In a sound package every row can be settled.
-pub fn compact(pkg: &mut [u8])
-    requires { ⌜ Shape (now pkg) ⌝ }
+// Gathers the rows' bytes at the heap's start: each time the lowest row is looked for. In a sound package every row can be settled.
+fn gather_each(pkg: &mut [u8], n: usize, e: usize)
+    requires { ⌜ Shape (now pkg) × (n ≡ countOf (now pkg)) × (e ≡ endOf (now pkg)) × (e < 2 ^ 32) ⌝ }
     ensures { λ _. ⌜ (Sound (now (pkg .entry)) → Gathered (now (pkg .entry)) (now (pkg .exit))) ⌝ }
 {
-    let n = get4(pkg, COUNT_AT);
-    let e = get4(pkg, END_AT);
-    let t = guesses(pkg, n);
     let mut c = 0;
-    let mut r = next_lowest(pkg, &t, n, 0);
+    let mut r = lowest(pkg, n, 0);
     while r < n {
         let k = settle(pkg, r, c, e);
         if k == 0 {
             return;
         }
         c += k;
-        r = next_lowest(pkg, &t, n, c);
+        r = lowest(pkg, n, c);
     }
     put4(pkg, END_AT, c);
+}
+
+// Gathers the rows' bytes at the heap's start, in the order in which they lie. Rows for which no order is confirmed are looked for one by one: so it is with a few.
+pub fn compact(pkg: &mut [u8])
+    requires { ⌜ Shape (now pkg) ⌝ }
+    ensures { λ _. ⌜ (Sound (now (pkg .entry)) → Gathered (now (pkg .entry)) (now (pkg .exit))) ⌝ }
+{
+    let n = get4(pkg, COUNT_AT);
+    let e = get4(pkg, END_AT);
+    let t = order(pkg, n, e);
+    if is_ordered(pkg, &t, n) {
+        gather_runs(pkg, &t, n, e);
+        return;
+    }
+    gather_each(pkg, n, e);
 }
 
 // Where the heap has room for k bytes more: at its end, once the rows are gathered if they must be.

@@ -3,7 +3,9 @@ pub mod bytes;
 pub mod header;
 pub mod heap;
 pub mod moves;
+pub mod order;
 pub mod rows;
+pub mod runs;
 pub mod slots;
 
 // The header's bytes, a slot's, the number of slots, and where the heap starts.

@@ -57,40 +57,6 @@ pub fn size(pkg: &[u8], i: usize) -> usize
     number(pkg, i, 4) + number(pkg, i, 8) + number(pkg, i, 12) + number(pkg, i, 16)
 }
 
-// How many places a table of guesses has.
-const GUESSES: usize = 1021;
-
-// For each remainder, a row whose bytes begin at such a place. It is a guess: of several such rows the table has one, and rows may have been moved since.
-pub fn guesses(pkg: &[u8], n: usize) -> [u16; 1021]
-    requires { ⌜ (n ≤ slotCount) × (heapStart ≤ length (now pkg)) ⌝ }
-{
-    let mut t = [0u16; 1021];
-    let mut i = 0;
-    while i < n {
-        t[offset(pkg, i) % GUESSES] = i as u16;
-        i += 1;
-    }
-    t
-}
-
-fn widened(x: u16) -> usize {
-    x as usize
-}
-
-// `lowest`, where a right guess spares the scan.
-pub fn next_lowest(pkg: &[u8], t: &[u16; 1021], n: usize, c: usize) -> usize
-    requires { ⌜ (n ≤ slotCount) × (heapStart ≤ length (now pkg)) ⌝ }
-    ensures { λ r. ⌜ Lowest (now (pkg .entry)) n c r ⌝ }
-{
-    let r = widened(t[c % GUESSES]);
-    if r < n {
-        if offset(pkg, r) == c {
-            return r;
-        }
-    }
-    lowest(pkg, n, c)
-}
-
 // One of the n rows whose bytes begin lowest in the heap, at or above c; n where none does.
 pub fn lowest(pkg: &[u8], n: usize, c: usize) -> usize
     requires { ⌜ (n ≤ slotCount) × (heapStart ≤ length (now pkg)) ⌝ }

@@ -1,97 +1,18 @@
-use mathlib.Core.Path.{_≡_}
-use Prim.Native.Nat.{_≤_, _-_}
 use native.Mathlib.Omega.{arith}
-use lib.ListN.{length}
-use Rattle.store.specs.Packages.{Sound}
-use Rattle.store.specs.Places.{Lowest}
-use Rattle.store.proofs.Gathering.{Gathering, gather-none, gather-some, gather-more, gather-all}
+use borrow.Author.Needs.{needs}
 use Rattle.store.proofs.heap.compact.Statement.{statement}
 use Rattle.store.proofs.heap.compact.Tie as tie
 
-abbrev Inv-loop : tie.InvT-loop
-Inv-loop pkg₀ n e t c₀ r₀ pkg c r = (length pkg ≡ length pkg₀) × (c ≤ e) × Lowest pkg n c r × (Sound pkg₀ → Gathering pkg₀ pkg c)
-
-abbrev μ-loop : tie.MeasureT-loop
-μ-loop pkg₀ n e t c₀ r₀ pkg c r = e - c
-
-get4-requires : tie.Need-get4-requires Inv-loop μ-loop
-get4-requires c κs = omega arith
-
-get4-requires-2 : tie.Need-get4-requires-2 Inv-loop μ-loop
-get4-requires-2 c κs = omega arith
-
-guesses-requires : tie.Need-guesses-requires Inv-loop μ-loop
-guesses-requires c κs = omega arith
-
-next-lowest-requires : tie.Need-next-lowest-requires Inv-loop μ-loop
-next-lowest-requires c κs = omega arith
-
-loop-holds : tie.Need-loop-holds Inv-loop μ-loop
-loop-holds c = (omega arith, omega arith, c .next-lowest .ensures, (λ so. gather-none _ so))
-
-settle-requires : tie.Need-settle-requires Inv-loop μ-loop
-settle-requires c κs = omega (arith, c .before .before .loop .inv .2 .above (c .before .loop-test .taken))
-
-same-length : tie.Need-same-length Inv-loop μ-loop
-same-length c = omega arith
-
-returns : tie.Need-returns Inv-loop μ-loop
-returns c so =
-    absurd (omega (
-      arith,
-      gather-some _ _ _ _ _ _ _ _ (c .before .before .before .before .before .before .loop .inv .3 so) (c .before .before .before .before .before .before .before .before .before .before .before .before .before .before .get4 .ensures .0) (c .before .before .before .before .before .before .before .before .before .before .before .before .get42 .ensures .0) (c .before .before .before .before .before .before .before .before .before .before .before .before .get42 .ensures .1) (c .before .before .before .before .before .before .loop .inv .1)
-          (c .before .before .before .before .before .before .loop .inv .2) (c .before .before .before .before .before .loop-test .taken) (c .before .before .before .settle .ensures),
-      c .if1 .taken,
-    ))
-
-add-c : tie.Need-add-c Inv-loop μ-loop
-add-c c = omega arith
-
-next-lowest-requires-2 : tie.Need-next-lowest-requires-2 Inv-loop μ-loop
-next-lowest-requires-2 c κs = omega arith
-
-loop-less : tie.Need-loop-less Inv-loop μ-loop
-loop-less c = omega arith
-
-loop-again : tie.Need-loop-again Inv-loop μ-loop
-loop-again c = (
-  omega arith,
-  omega arith,
-  c .next-lowest2 .ensures,
-  (λ so.
-      gather-more _ _ _ _ _ _ _ _ (c .before .before .before .before .before .before .before .before .before .loop .inv .3 so) (c .before .before .before .before .before .before .before .before .before .before .before .before .before .before .before .before .before .get4 .ensures .0) (c .before .before .before .before .before .before .before .before .before .before .before .before .before .before .before .get42 .ensures .0) (c .before .before .before .before .before .before .before .before .before .before .before .before .before .before .before .get42 .ensures .1) (c .before .before .before .before .before .before .before .before .before .loop .inv .1)
-      (c .before .before .before .before .before .before .before .before .before .loop .inv .2) (c .before .before .before .before .before .before .before .before .loop-test .taken) (c .before .before .before .before .before .before .settle .ensures)),
+gather-runs-requires : tie.Need-gather-runs-requires
+gather-runs-requires c κs = (
+  (let at = c .before .before .before .before .before .before .before .before in (at .before .before .before .before .before .pre, at .before .before .get4 .ensures .0, at .get42 .ensures .0, at .get42 .ensures .1)),
+  (omega arith, c .before .before .before .is-ordered .ensures (c .before .before .if1 .taken)),
 )
-
-put4-requires : tie.Need-put4-requires Inv-loop μ-loop
-put4-requires c κs = omega arith
-
-same-length-2 : tie.Need-same-length-2 Inv-loop μ-loop
-same-length-2 c = omega arith
-
-returns-2 : tie.Need-returns-2 Inv-loop μ-loop
-returns-2 c so =
-    gather-all _ _ _ _ _ _ _ (c .before .before .before .before .before .loop .inv .3 so) (c .before .before .before .before .before .before .before .before .before .before .before .before .before .get4 .ensures .0) (c .before .before .before .before .before .before .before .before .before .before .before .get42 .ensures .0) (c .before .before .before .before .before .before .before .before .before .before .before .get42 .ensures .1) (c .before .before .before .before .before .loop .inv .1)
-    (c .before .before .before .before .before .loop .inv .2) (c .before .before .before .before .loop-test .left) (c .before .before .put4 .ensures)
 
 pub compact-spec : {M : Type 1} → statement M
 compact-spec =
     tie.close
     (tie.spec
-    Inv-loop
-    μ-loop
-    get4-requires
-    get4-requires-2
-    guesses-requires
-    next-lowest-requires
-    loop-holds
-    settle-requires
-    same-length
-    returns
-    add-c
-    next-lowest-requires-2
-    loop-less
-    loop-again
-    put4-requires
-    same-length-2
-    returns-2)
+    (λ c κs. search needs) (λ c κs. search needs) (λ c κs. search needs) (λ c. search needs) (λ c κs. search needs) (λ c. search needs)
+    gather-runs-requires
+    (λ c. search needs) (λ c. search needs) (λ c κs. search needs) (λ c. search needs) (λ c. search needs))
