@@ -3,7 +3,9 @@
 //! A [`Script`] gathers calls as bytes; [`Package::run`] makes them one after
 //! the other, each on the package as the one before left it, and writes all
 //! their answers to one lent output. A refused call changes nothing and the
-//! run goes on behind it. A script may be stored, sent, and run many times.
+//! run goes on behind it. A script may be stored, sent, and run many times. It
+//! takes about as long as its calls by themselves: what it saves is the way to
+//! the engine, for a caller to whom that is long.
 //!
 //! ```
 //! use zombirels::package::{Package, OVERHEAD};

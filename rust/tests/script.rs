@@ -497,20 +497,19 @@ fn damaged_packages() {
         made += run_and_make(&mut random, package.bytes(), &calls);
         package.check();
 
-        let mut package = Guarded::new(&bytes);
+        // each in an allocation of its own length, for a memory checker
+        let mut package = bytes.into_boxed_slice();
         let script = [script_of(&calls), random_tail(&mut random)].concat();
+        let script = script.into_boxed_slice();
         let length = random_length(&mut random, &calls);
-        let before = random.bytes(length);
-        let mut out = Guarded::new(&before);
-        let run = Package::open(package.bytes()).run_bytes(&script, out.bytes());
-        let (written, read) = (run.written(), run.read());
-        assert!(read <= script.len() && run.calls() <= script.len() / HEAD_SIZE);
-        assert!(run
-            .answers()
-            .all(|answer| answer.code.is_some() || !run.is_complete()));
-        assert!(out.bytes()[written..] == before[written..]);
-        out.check();
-        package.check();
+        let before = random.bytes(length).into_boxed_slice();
+        let mut out = before.clone();
+        let run = Package::open(&mut package).run_bytes(&script, &mut out);
+        let (written, calls) = (run.written(), run.calls());
+        assert!(run.read() <= script.len() && calls <= script.len() / HEAD_SIZE);
+        let answers = run.answers().filter(|answer| answer.code.is_some());
+        assert_eq!(answers.count(), calls);
+        assert!(out[written..] == before[written..]);
     }
     println!("damaged packages: {made} calls made twice, {none} were no package");
     assert!(none > 0);
