@@ -55,7 +55,7 @@ enum opc_number {
     OPC_NOT_HELD = 13,             /* not held, no part yet, or no such position */
     OPC_NO_MEDIA_TYPE = 14,
     OPC_FULL = 15,                 /* a set is full, or the charge would pass the capacity */
-    /* the program `sheet`; no function answers it */
+    /* a line of the program `sheet`, or what a script has instead of a call; only opc_run writes it, among its answers */
     OPC_UNREADABLE_LINE = 16
 };
 
@@ -135,8 +135,8 @@ opc_reply opc_source_of_relationships_part(const uint8_t *name, size_t name_leng
 /*
  * PACKAGES. `package` is the whole lent buffer, at least `capacity` + OPC_OVERHEAD
  * bytes, in every call; its bytes may be stored, mapped or moved between calls.
- * Every call but opc_start and opc_view_item is refused by 1 before all else if
- * the buffer is no package; the lists of refusals leave that out.
+ * Every call but opc_start, opc_view_item and opc_run is refused by 1 before all
+ * else if the buffer is no package; the lists of refusals leave that out.
  */
 
 /* Makes an empty package of the buffer, whatever it held.
@@ -215,6 +215,63 @@ opc_reply opc_write_relationships(const uint8_t *package, size_t package_length,
                                   uint8_t *out, size_t out_length);
 
 /* end of LINKS AND STREAMS */
+
+/*
+ * SCRIPTS: many calls in one. A script is calls in bytes, one behind the other.
+ * Each is a head of OPC_HEAD_SIZE bytes and then its four texts a, b, c and d,
+ * one behind the other. The head is eight numbers of four bytes, the low byte
+ * first:
+ *   0 the code      4 how many bytes of output the call is lent
+ *   8 length of a   12 length of b   16 length of c   20 length of d
+ *   24 the low half of the number n   28 its high half
+ * What a call does not take is passed over: texts, n, and the bytes lent to a
+ * call that writes nothing, which stay as they were.
+ *
+ * The answer to each call takes the next OPC_REPLY_SIZE + (bytes lent) bytes of
+ * the output: its reply as it lies in memory (five numbers of eight bytes, the
+ * low byte first), then the bytes that it was lent, as it left them. All are
+ * answered as by their own functions, but OPC_CALL_VIEW_ITEM: its one value is
+ * the item's length, and as many of the item's bytes as the lent ones take are
+ * copied there.
+ *
+ * For example, to put an item and read its first bytes: the number 2, a 0, the
+ * lengths of the name and of the bytes, four 0, the name, the bytes; then the
+ * number 13, a 64, the length of the name, five 0, the name again. An output of
+ * 40 + 104 bytes takes the answers: at 0 the reply to the put; at 40 the reply
+ * to the read, whose first value is how many of the bytes from 80 on were read.
+ */
+#define OPC_HEAD_SIZE 32
+#define OPC_REPLY_SIZE 40
+
+/* The codes, each with what the call takes. */
+enum opc_code {
+    OPC_CALL_START = 1,             /* n capacity */
+    OPC_CALL_PUT_ITEM = 2,          /* a name, b bytes */
+    OPC_CALL_DROP_ITEM = 3,         /* a name */
+    OPC_CALL_PUT_DEFAULT = 4,       /* a extension, b media type */
+    OPC_CALL_DROP_DEFAULT = 5,      /* a extension */
+    OPC_CALL_PUT_OVERRIDE = 6,      /* a name, b media type */
+    OPC_CALL_DROP_OVERRIDE = 7,     /* a name */
+    OPC_CALL_PUT_RELATIONSHIP = 8,  /* a source, b id, c type, n mode, d target */
+    OPC_CALL_DROP_RELATIONSHIP = 9, /* a source, b id */
+    OPC_CALL_FIND_ITEM = 10,        /* a name */
+    OPC_CALL_VIEW_ITEM = 11,        /* a name; writes */
+    OPC_CALL_TOTALS = 12,
+    OPC_CALL_READ_PART = 13,            /* a name, n offset; writes */
+    OPC_CALL_MEDIA_TYPE = 14,           /* a name; writes */
+    OPC_CALL_PART_AT = 15,              /* n position; writes */
+    OPC_CALL_RESOLVE_RELATIONSHIP = 16, /* a source, b id, c package IRI; writes */
+    OPC_CALL_WRITE_TYPES = 17,          /* writes */
+    OPC_CALL_WRITE_RELATIONSHIPS = 18   /* a source; writes */
+};
+
+/* Makes the calls of a script, each on the package as the one before left it: how many bytes of `out` were written, how many bytes of
+   the script the calls made have, and how many these are. The bytes of `out` past the written ones stay as they were. It is never
+   refused; a refused call changes nothing but its own answer, and the run goes on behind it. The run ends
+   - at the end of the script: its calls then have all of its bytes;
+   - before a call for whose answer `out` has no room;
+   - at what is no call, which has no code of these or is cut short: if `out` has room for it, a reply with number 16 is written. */
+opc_reply opc_run(uint8_t *package, size_t package_length, const uint8_t *script, size_t script_length, uint8_t *out, size_t out_length);
 
 #ifdef __cplusplus
 }

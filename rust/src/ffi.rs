@@ -214,3 +214,15 @@ extern "C" {
         out_length: usize,
     ) -> Reply;
 }
+
+// Scripts.
+extern "C" {
+    pub(crate) fn opc_run(
+        package: *mut u8,
+        package_length: usize,
+        script: *const u8,
+        script_length: usize,
+        out: *mut u8,
+        out_length: usize,
+    ) -> Reply;
+}

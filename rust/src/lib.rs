@@ -9,7 +9,8 @@
 //!   and judges the other fields of a package;
 //! - [`iri`] judges and resolves IRIs, composes and resolves pack IRIs, and
 //!   names the Relationships part of a source;
-//! - [`package`] keeps a package in a buffer that its caller lends.
+//! - [`package`] keeps a package in a buffer that its caller lends;
+//! - [`script`] makes many calls on a package by one.
 //!
 //! ```
 //! use zombirels::names;
@@ -28,5 +29,6 @@ pub mod iri;
 pub mod names;
 pub mod package;
 mod refusal;
+pub mod script;
 
 pub use refusal::Refusal;

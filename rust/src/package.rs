@@ -60,7 +60,7 @@ pub const RELATIONSHIPS_MAX: usize = 256;
 /// A package in a lent buffer. For one that is only looked at there is
 /// [`PackageRef`].
 pub struct Package<'a> {
-    buffer: &'a mut [u8],
+    pub(crate) buffer: &'a mut [u8],
 }
 
 /// Shows the length of the buffer, not its bytes.
@@ -117,6 +117,23 @@ pub struct Resolved {
     pub mode: Mode,
     /// Whether that part is held; of an external target never.
     pub held: bool,
+}
+
+impl Resolved {
+    /// From the three values of the archive's answer.
+    pub(crate) fn from_values([length, mode, held]: [usize; 3]) -> Resolved {
+        let mode = match mode {
+            0 => Mode::Internal,
+            1 => Mode::External,
+            _ => unreachable!("the archive has two modes"),
+        };
+        assert!(held <= 1, "held or not");
+        Resolved {
+            length,
+            mode,
+            held: held == 1,
+        }
+    }
 }
 
 impl<'a> Package<'a> {

@@ -42,7 +42,7 @@ pub enum Refusal {
     NoMediaType,
     /// 15: a set is full, or the charge would pass the capacity.
     Full,
-    /// 16: the line is unreadable.
+    /// 16: a line of a sheet is unreadable, or what a script has is no call.
     UnreadableLine,
 }
 
@@ -87,7 +87,7 @@ impl Refusal {
             Refusal::NotHeld => "not held",
             Refusal::NoMediaType => "the part has no media type",
             Refusal::Full => "the package is full",
-            Refusal::UnreadableLine => "the line is unreadable",
+            Refusal::UnreadableLine => "the line or call is unreadable",
         }
     }
 

@@ -8,6 +8,7 @@ pub mod ledger;
 pub mod names;
 pub mod pack;
 pub mod relationships;
+pub mod script;
 pub mod sheet;
 
 /// Why a call is refused. Refusal 1 (no package) has no case: the ledger
@@ -42,7 +43,7 @@ pub enum Refusal {
     NoMediaType,
     /// 15: a set is full, or the charge would pass the capacity.
     Full,
-    /// 16: the line is unreadable.
+    /// 16: the line is unreadable, or what a script has is no call.
     UnreadableLine,
 }
 

@@ -1,6 +1,6 @@
 //! A package that is only looked at.
 
-use super::{show, Mode, Resolved, Totals};
+use super::{show, Resolved, Totals};
 use crate::ffi;
 use crate::Refusal;
 use std::fmt;
@@ -199,18 +199,7 @@ impl<'a> PackageRef<'a> {
                 out.len(),
             )
         };
-        let [length, mode, held] = reply.values()?;
-        let mode = match mode {
-            0 => Mode::Internal,
-            1 => Mode::External,
-            _ => unreachable!("the archive has two modes"),
-        };
-        assert!(held <= 1, "held or not");
-        Ok(Resolved {
-            length,
-            mode,
-            held: held == 1,
-        })
+        reply.values().map(Resolved::from_values)
     }
 
     /// Writes the Media Types stream and answers its length.
