@@ -7,8 +7,7 @@ mod support;
 
 use foreign::{Call, Share, CALLS, HEADERS, KINDS};
 use std::hint::black_box;
-use std::time::Instant;
-use support::median;
+use support::{median, seconds};
 use zombirels::package::Package;
 
 /// The bytes of the heaps.
@@ -17,11 +16,11 @@ const HEAPS: [usize; 3] = [1_000_000, 4_000_000, 16_000_000];
 const TIMES: usize = 5;
 const LONG: f64 = 0.5;
 
-/// What a run takes, in milliseconds, by the wall clock.
+/// What a run takes, in milliseconds of processor time.
 fn milliseconds(run: impl FnOnce()) -> f64 {
-    let start = Instant::now();
+    let start = seconds();
     run();
-    start.elapsed().as_secs_f64() * 1e3
+    (seconds() - start) * 1e3
 }
 
 /// The median of some runs' times.

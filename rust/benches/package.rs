@@ -2,18 +2,18 @@
 //! an ordered map keyed by the folded name; its folding is part of the call.
 //!
 //! Puts and drops change the package, so they are timed in batches: 40 tiles
-//! are put into 180, which makes 200 on average, then dropped again. Both
-//! sides do the same, and each half is timed by itself. The bytes of dropped
-//! items stay as gaps until a put finds no room behind the others and gathers
-//! them: a round has 50 batches, so its share of that is in the put's time. A
-//! buffer that is longer than it must be needs it less often.
+//! are put into 180, which makes 200 on average, then 40 of all tiles are
+//! dropped at random. Both sides do the same, and each half is timed by
+//! itself. The bytes of dropped items stay as gaps until a put finds no room
+//! behind the others and gathers them: a round has 50 batches, so its share of
+//! that is in the put's time. A buffer that is longer than it must be needs it
+//! less often.
 
 mod support;
 
 use reference::ledger::Ledger;
 use std::hint::black_box;
-use std::time::Instant;
-use support::median;
+use support::{median, seconds, Random};
 use zombirels::package::{Mode, Package, CAPACITY_MAX, OVERHEAD};
 
 const TILE: usize = 4096;
@@ -118,30 +118,39 @@ fn print_growth(call: &str, few: (f64, f64), many: (f64, f64)) {
 }
 
 /// The seconds of a batch's puts and of its drops, on one side.
-fn batch(keys: &[Vec<u8>], mut change: impl FnMut(&[u8], Change)) -> [f64; 2] {
-    [Change::Put, Change::Drop].map(|what| {
-        let start = Instant::now();
-        for key in keys {
+fn batch(halves: [&[&[u8]]; 2], mut change: impl FnMut(&[u8], Change)) -> [f64; 2] {
+    let mut times = [0.0; 2];
+    for (half, what) in [Change::Put, Change::Drop].into_iter().enumerate() {
+        let start = seconds();
+        for key in halves[half] {
             change(black_box(key), what);
         }
-        start.elapsed().as_secs_f64()
-    })
+        times[half] = seconds() - start;
+    }
+    times
 }
 
-/// Times puts and drops of the entries with these keys, on both sides.
+/// Times puts and drops on both sides: in each batch of the entries whose keys
+/// are not held, then of as many of all entries at random.
 fn changes(
     what: [&str; 2],
     keys: &[Vec<u8>],
     mut archive: impl FnMut(&[u8], Change),
     mut reference: impl FnMut(&[u8], Change),
 ) {
-    assert_eq!(keys.len(), BATCH);
     let mut times: [[Vec<f64>; 2]; 2] = Default::default();
+    let mut random = Random(1);
+    let mut order: Vec<&[u8]> = keys.iter().map(Vec::as_slice).collect();
     for number in 0..=ROUNDS {
         let mut sums = [[0.0; 2]; 2];
         for _ in 0..BATCHES {
-            let archive = batch(keys, &mut archive);
-            let reference = batch(keys, &mut reference);
+            let puts = order[..BATCH].to_vec();
+            for i in 0..BATCH {
+                order.swap(i, i + random.below(keys.len() - i));
+            }
+            let halves = [&puts[..], &order[..BATCH]];
+            let archive = batch(halves, &mut archive);
+            let reference = batch(halves, &mut reference);
             for half in 0..2 {
                 sums[half][0] += archive[half];
                 sums[half][1] += reference[half];
@@ -164,11 +173,9 @@ fn puts_and_drops(what: [&str; 2], more: usize) {
     let mut buffer = vec![0; CAPACITY_MAX as usize + OVERHEAD + more];
     let mut pair = Pair::new(&mut buffer);
     let bytes = vec![7; TILE];
-    // 2 of 11 tiles are for the batch, so that these lie all over the rest
-    let (batched, rest): (Vec<usize>, Vec<usize>) = (0..220).partition(|i| matches!(i % 11, 2 | 7));
-    let tiles: Vec<Vec<u8>> = batched.into_iter().map(tile).collect();
-    for i in rest {
-        pair.put(&tile(i), &bytes);
+    let tiles: Vec<Vec<u8>> = (0..220).map(tile).collect();
+    for tile in &tiles[BATCH..] {
+        pair.put(tile, &bytes);
     }
     let Pair { package, ledger } = &mut pair;
     changes(

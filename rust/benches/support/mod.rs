@@ -1,13 +1,57 @@
-//! What the benchmarks share: both sides timed in turn, the median of their
-//! rounds, one line for each call.
+//! What the benchmarks share: both sides timed in turn by the processor time
+//! of the thread, the median of their rounds, one line for each call.
 
 #![allow(dead_code)] // each benchmark uses its own share
 
 use std::hint::black_box;
-use std::time::Instant;
 
 /// How many rounds are timed, behind one to warm up.
 const ROUNDS: usize = 15;
+
+/// A time as the C library tells it.
+#[repr(C)]
+struct Timespec {
+    seconds: i64,
+    nanoseconds: i64,
+}
+
+extern "C" {
+    fn clock_gettime(clock: i32, time: *mut Timespec) -> i32;
+}
+
+/// The seconds that this thread has had the processor. The time that other
+/// programs had it is not in them.
+pub fn seconds() -> f64 {
+    const CLOCK_THREAD_CPUTIME_ID: i32 = 3; // as on Linux
+    let mut time = Timespec {
+        seconds: 0,
+        nanoseconds: 0,
+    };
+    // SAFETY: the time is lent for writing, and has the C library's layout.
+    let failed = unsafe { clock_gettime(CLOCK_THREAD_CPUTIME_ID, &mut time) };
+    assert_eq!(failed, 0, "the thread's clock");
+    time.seconds as f64 + 1e-9 * time.nanoseconds as f64
+}
+
+/// Numbers that look random and are the same in each run.
+pub struct Random(pub u64);
+
+impl Random {
+    pub fn below(&mut self, limit: usize) -> usize {
+        self.0 = self.0.wrapping_mul(6_364_136_223_846_793_005);
+        self.0 = self.0.wrapping_add(1_442_695_040_888_963_407);
+        (self.0 >> 33) as usize % limit
+    }
+
+    /// The numbers below `count` in some order.
+    pub fn shuffled(&mut self, count: usize) -> Vec<usize> {
+        let mut numbers: Vec<usize> = (0..count).collect();
+        for i in (1..count).rev() {
+            numbers.swap(i, self.below(i + 1));
+        }
+        numbers
+    }
+}
 
 /// Prints what the columns are.
 pub fn heading() {
@@ -18,7 +62,7 @@ pub fn heading() {
 
 /// The seconds of one round: so many passes over all cases.
 fn round(passes: usize, cases: usize, call: &mut impl FnMut(usize) -> usize) -> f64 {
-    let start = Instant::now();
+    let start = seconds();
     let mut sum = 0;
     for _ in 0..passes {
         for case in 0..cases {
@@ -26,7 +70,7 @@ fn round(passes: usize, cases: usize, call: &mut impl FnMut(usize) -> usize) -> 
         }
     }
     black_box(sum);
-    start.elapsed().as_secs_f64()
+    seconds() - start
 }
 
 pub fn median(mut times: Vec<f64>) -> f64 {
