@@ -1,2 +1,3 @@
 pub mod WorkedList
 pub mod MoreLists
+pub mod Returning

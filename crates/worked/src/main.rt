@@ -1,6 +1,9 @@
 // Worked lists of calls: what the last one answers follows from the theorem over every list. Every call of the ledger stands in one of them.
 use contract::answers::Found;
 use contract::answers::Totalled;
+use iri::pack::Resolved;
+use iri::pack::compose;
+use iri::pack::resolve_pack;
 use iri::writing::Written;
 use items::calls::drop_item;
 use items::calls::find_item;
@@ -22,10 +25,13 @@ use types::calls::put_default;
 use types::calls::put_override;
 use types::media::media_type;
 ghost use mathlib.Core.Path.{_≡_};
+ghost use mathlib.Core.Bool.{true};
 ghost use Prim.Native.Nat.{_≤_};
 ghost use lib.ListN.{length};
 ghost use Rattle.chars.specs.Bytes.{ascii};
+ghost use Rattle.names.specs.Iris.{packageIri};
 ghost use Rattle.iri.specs.Answers.{ofWritten};
+ghost use Rattle.iri.specs.Pack.{unfragmented, packIri, partOrRoot, partOf, Found as FoundAt, ofResolved, located};
 ghost use Rattle.relationships.specs.Resolutions.{ofResolution};
 ghost use Rattle.worked.specs.Last.{ledTo, wrote, typedAs, joinedFrom, linkedText};
 
@@ -122,6 +128,18 @@ fn linked(p: &mut [u8], out: &mut [u8]) -> Written
     put_relationship(p, b"/s", b"r2", b"a:tile", 1, b"u&v");
     drop_relationship(p, b"/S", b"r1");
     write_relationships(p, b"/S", out)
+}
+
+// A pack IRI is composed and resolved: back come the package IRI without its fragment, and the part name.
+fn returned(base: &[u8], name: &[u8], text: &mut [u8], out: &mut [u8]) -> Resolved
+    requires { ⌜ (packageIri (now base) ≡ true) × (partOrRoot (now name) ≡ true) × (length (packIri (now base) (now name)) ≤ length (now text)) ⌝ }
+    ensures { λ r. ⌜ ofResolved r (now (out .exit)) ≡ located (FoundAt (unfragmented (now (base .entry))) (partOf (now (name .entry)))) (now (out .entry)) ⌝ }
+{
+    match compose(base, name, text) {
+        Written::Bytes(n) => resolve_pack(&text[..n], out),
+        Written::Short(_) => Resolved::Refused(3),
+        Written::Refused(k) => Resolved::Refused(k),
+    }
 }
 
 // The outputs of the lists are as long as what is written to them.

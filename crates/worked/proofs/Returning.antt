@@ -1,0 +1,54 @@
+-- What a program gets back that composes a pack IRI and resolves it, by the contracts of the two calls.
+-- Assumes nothing.
+use Prim.Native.Nat.{ℕ, zero, suc, _≤_, _<_}
+use mathlib.Core.Path.{_≡_, refl, ap, sym, _∙_}
+use mathlib.Core.Bool.{true}
+use mathlib.Core.List.{List, _++_}
+use native.Mathlib.Omega.{arith}
+use lib.ListN.{length, getD, take}
+use borrow.Author.Tests.{le-leb, eqb-true}
+use Rattle.names.specs.Iris.{packageIri}
+use Rattle.iri.specs.Answers.{Answer, ofWritten, writtenWhere}
+use Rattle.iri.specs.Pack.{unfragmented, packIri, partOrRoot, compose, partOf, Found, resolvePack, located}
+use Rattle.iri.specs.Demand.{composing, resolving, bytesWritten}
+use Rattle.iri.specs.declared.writing.Written.{Written}
+use Rattle.iri.specs.declared.writing.Written.the-variants.{Bytes, Short, Refused}
+use Rattle.iri.proofs.PackIris.{every-pack-iri}
+
+some : (base name : List ℕ) → 0 < length (packIri base name)
+unfolding packIri
+some base name = omega arith
+
+-- the answer of a call that wrote a text
+only-bytes : (w : Written) (t out out' : List ℕ) → 0 < length t → ofWritten w out' ≡ writtenWhere true t out → w ≡ Bytes (length t)
+only-bytes (Bytes n) t out out' h e = ap Bytes (ap (λ (a : Answer). getD (a .values) 0 0) e)
+only-bytes (Short n) t out out' h e = absurd (omega (arith, ap (λ (a : Answer). a .number) e))
+only-bytes (Refused zero) t out out' h e = absurd (omega (arith, ap (λ (a : Answer). getD (a .values) 0 0) e))
+only-bytes (Refused (suc k)) t out out' h e = absurd (omega (arith, ap (λ (a : Answer). a .number) e))
+
+-- which case an answer is
+abbrev case : Written → ℕ
+case (Bytes n) = 0
+case (Short n) = 1
+case (Refused k) = 2
+
+-- out is the output of composing, w its answer, and out' what the output holds then
+module _ (base name out : List ℕ) (p : packageIri base ≡ true) (n : partOrRoot name ≡ true) (l : length (packIri base name) ≤ length out) where
+  composed-bytes : (w : Written) (out' : List ℕ) → ofWritten w out' ≡ composing base name out → w ≡ Bytes (length (packIri base name))
+  unfolding compose
+  composed-bytes w out' e = only-bytes w (packIri base name) out out' (some base name) (e ∙ rw (p, n, le-leb _ _ l))
+
+  pub never-short : (w : Written) (m : ℕ) (out' : List ℕ) → ofWritten w out' ≡ composing base name out → w ≡ Short m → ⊥
+  never-short w m out' e s = omega (arith, ap case (sym s ∙ composed-bytes w out' e))
+
+  pub never-refused : (w : Written) (k : ℕ) (out' : List ℕ) → ofWritten w out' ≡ composing base name out → w ≡ Refused k → ⊥
+  never-refused w k out' e s = omega (arith, ap case (sym s ∙ composed-bytes w out' e))
+
+  pub bytes-few : (w : Written) (k : ℕ) (out' : List ℕ) → ofWritten w out' ≡ composing base name out → w ≡ Bytes k → k ≤ length out
+  bytes-few w k out' e s = let b : k ≡ length (packIri base name) = cc (s, composed-bytes w out' e) in omega arith
+
+  pub resolved-back : (w : Written) (k : ℕ) (out' found : List ℕ) → ofWritten w out' ≡ composing base name out → w ≡ Bytes k
+      → located (resolvePack (take k out')) found ≡ located (Found (unfragmented base) (partOf name)) found
+  resolved-back w k out' found e s =
+      ap (λ (a : Answer). resolving (bytesWritten a) found) (ap (λ (x : Written). ofWritten x out') (sym s) ∙ e)
+      ∙ every-pack-iri .returned base name out found (eqb-true _ 0 (every-pack-iri .accepted base name out ∙ rw (p, n, le-leb _ _ l)))
