@@ -3,17 +3,21 @@
 use Prim.Native.Nat.{ℕ, zero, suc, _≤_, _<_}
 use mathlib.Core.Path.{_≡_, refl, ap, sym, _∙_}
 use mathlib.Core.Bool.{true}
-use mathlib.Core.List.{List, _++_}
+use mathlib.Core.List.{List, [], _∷_}
 use native.Mathlib.Omega.{arith}
-use lib.ListN.{length, getD, take}
+use lib.ListN.{length, getD, take, replicate}
 use borrow.Author.Tests.{le-leb, eqb-true}
+use Rattle.chars.specs.Bytes.{ascii}
 use Rattle.names.specs.Iris.{packageIri}
-use Rattle.iri.specs.Answers.{Answer, ofWritten, writtenWhere}
-use Rattle.iri.specs.Pack.{unfragmented, packIri, partOrRoot, compose, partOf, Found, resolvePack, located}
+use Rattle.iri.specs.Answers.{Answer, answer, ofWritten, writtenWhere}
+use Rattle.iri.specs.Pack.{unfragmented, packIri, partOrRoot, compose, partOf, Found, resolvePack, ofResolved, located}
 use Rattle.iri.specs.Demand.{composing, resolving, bytesWritten}
 use Rattle.iri.specs.declared.writing.Written.{Written}
 use Rattle.iri.specs.declared.writing.Written.the-variants.{Bytes, Short, Refused}
+use Rattle.iri.specs.declared.pack.Resolved.{Resolved}
+use Rattle.iri.specs.declared.pack.Resolved.the-variants as resolved
 use Rattle.iri.proofs.PackIris.{every-pack-iri}
+use Rattle.model.specs.Opened.{everything}
 
 some : (base name : List ℕ) → 0 < length (packIri base name)
 unfolding packIri
@@ -52,3 +56,27 @@ module _ (base name out : List ℕ) (p : packageIri base ≡ true) (n : partOrRo
   resolved-back w k out' found e s =
       ap (λ (a : Answer). resolving (bytesWritten a) found) (ap (λ (x : Written). ofWritten x out') (sym s) ∙ e)
       ∙ every-pack-iri .returned base name out found (eqb-true _ 0 (every-pack-iri .accepted base name out ∙ rw (p, n, le-leb _ _ l)))
+
+-- ONE PACKAGE IRI. what it takes to compose it, and the last byte that comes back
+abbrev pub exampleBase : List ℕ
+exampleBase = ascii "http://www.example.com/ex.opc#top"
+
+abbrev pub exampleName : List ℕ
+exampleName = ascii "/foo/b.xml"
+
+pub example-composed : (packageIri exampleBase ≡ true) × (partOrRoot exampleName ≡ true) × (length (packIri exampleBase exampleName) ≤ 48)
+unfolding everything
+example-composed = (refl, refl, omega arith)
+
+example-found : located (Found (unfragmented exampleBase) (partOf exampleName)) (replicate 39 0) ≡ answer 0 (29 ∷ 10 ∷ []) (ascii "http://www.example.com/ex.opc/foo/b.xml")
+unfolding everything
+example-found = refl
+
+found-output : (r : Resolved) (a b : ℕ) (o out : List ℕ) → 0 < a → ofResolved r out ≡ answer 0 (a ∷ b ∷ []) o → out ≡ o
+found-output (resolved.Found i j) a b o out h e = ap (λ (x : Answer). x .output) e
+found-output (resolved.Short m) a b o out h e = absurd (omega (arith, ap (λ (x : Answer). x .number) e))
+found-output (resolved.Refused zero) a b o out h e = absurd (omega (arith, ap (λ (x : Answer). getD (x .values) 0 0) e))
+found-output (resolved.Refused (suc k)) a b o out h e = absurd (omega (arith, ap (λ (x : Answer). x .number) e))
+
+pub example-end : (r : Resolved) (out : List ℕ) → ofResolved r out ≡ located (Found (unfragmented exampleBase) (partOf exampleName)) (replicate 39 0) → getD out 38 0 ≡ 108
+example-end r out e = ap (λ (o : List ℕ). getD o 38 0) (found-output r 29 10 _ out (omega arith) (e ∙ example-found))

@@ -162,6 +162,14 @@ fn run_writers(p: &mut [u8])
     check::expect(links[217] == b'\n');
 }
 
+fn run_back() {
+    let mut text = [0u8; 48];
+    let mut back = [0u8; 39];
+    let base = b"http://www.example.com/ex.opc#top";
+    returned(base, b"/foo/b.xml", &mut text, &mut back);
+    check::expect(back[38] == b'l');
+}
+
 fn main() {
     let mut p = [0u8; 33000];
     let Found::Length(n) = worked(&mut p) else {
@@ -180,5 +188,6 @@ fn main() {
     };
     check::expect((items == 1) & (parts == 1) & (charge == 11));
     run_writers(&mut p);
+    run_back();
     check::expect(viewed(&mut p).len() == 5);
 }
