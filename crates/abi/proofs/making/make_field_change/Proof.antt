@@ -1,26 +1,27 @@
+use mathlib.Core.Path.{refl}
 use native.Mathlib.Omega.{arith}
-use Rattle.abi.proofs.Telling.{told-coded, told-change}
+use Rattle.abi.proofs.Telling.{told-coded, told-plain}
 use borrow.Author.Needs.{needs}
 use Rattle.abi.proofs.making.make_field_change.Statement.{statement}
 use Rattle.abi.proofs.making.make_field_change.Tie as tie
 
 returns : tie.Need-returns
-returns c = record { is = λ lent. told-coded 4 _ _ _ _ _ _ _ _ _ _ _ _ (c .before .before .before .before .if1 .taken) (told-change (c .before .before .opc-put-default .ensures) lent) }
+returns c = record { is = λ lent. told-coded 4 _ _ _ _ _ _ _ _ _ _ _ _ (c .before .before .before .before .if1 .taken) (told-plain (λ a. refl) (λ l a. refl) (c .before .before .opc-put-default .ensures) lent) }
 
 returns-2 : tie.Need-returns-2
-returns-2 c = record { is = λ lent. told-coded 5 _ _ _ _ _ _ _ _ _ _ _ _ (c .before .before .before .before .if2 .taken) (told-change (c .before .before .opc-drop-default .ensures) lent) }
+returns-2 c = record { is = λ lent. told-coded 5 _ _ _ _ _ _ _ _ _ _ _ _ (c .before .before .before .before .if2 .taken) (told-plain (λ a. refl) (λ l a. refl) (c .before .before .opc-drop-default .ensures) lent) }
 
 returns-3 : tie.Need-returns-3
-returns-3 c = record { is = λ lent. told-coded 6 _ _ _ _ _ _ _ _ _ _ _ _ (c .before .before .before .before .if3 .taken) (told-change (c .before .before .opc-put-override .ensures) lent) }
+returns-3 c = record { is = λ lent. told-coded 6 _ _ _ _ _ _ _ _ _ _ _ _ (c .before .before .before .before .if3 .taken) (told-plain (λ a. refl) (λ l a. refl) (c .before .before .opc-put-override .ensures) lent) }
 
 returns-4 : tie.Need-returns-4
-returns-4 c = record { is = λ lent. told-coded 7 _ _ _ _ _ _ _ _ _ _ _ _ (c .before .before .before .before .if4 .taken) (told-change (c .before .before .opc-drop-override .ensures) lent) }
+returns-4 c = record { is = λ lent. told-coded 7 _ _ _ _ _ _ _ _ _ _ _ _ (c .before .before .before .before .if4 .taken) (told-plain (λ a. refl) (λ l a. refl) (c .before .before .opc-drop-override .ensures) lent) }
 
 returns-5 : tie.Need-returns-5
-returns-5 c = record { is = λ lent. told-coded 8 _ _ _ _ _ _ _ _ _ _ _ _ (c .before .before .before .before .if5 .taken) (told-change (c .before .before .opc-put-relationship .ensures) lent) }
+returns-5 c = record { is = λ lent. told-coded 8 _ _ _ _ _ _ _ _ _ _ _ _ (c .before .before .before .before .if5 .taken) (told-plain (λ a. refl) (λ l a. refl) (c .before .before .opc-put-relationship .ensures) lent) }
 
 returns-6 : tie.Need-returns-6
-returns-6 c = record { is = λ lent. told-coded 9 _ _ _ _ _ _ _ _ _ _ _ _ (omega arith) (told-change (c .before .before .opc-drop-relationship .ensures) lent) }
+returns-6 c = record { is = λ lent. told-coded 9 _ _ _ _ _ _ _ _ _ _ _ _ (omega arith) (told-plain (λ a. refl) (λ l a. refl) (c .before .before .opc-drop-relationship .ensures) lent) }
 
 pub make-field-change-spec : {M : Type 1} → statement M
 make-field-change-spec =

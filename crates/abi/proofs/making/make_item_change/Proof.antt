@@ -1,17 +1,18 @@
+use mathlib.Core.Path.{refl}
 use native.Mathlib.Omega.{arith}
-use Rattle.abi.proofs.Telling.{told-coded, told-start, told-change}
+use Rattle.abi.proofs.Telling.{told-coded, told-plain}
 use borrow.Author.Needs.{needs}
 use Rattle.abi.proofs.making.make_item_change.Statement.{statement}
 use Rattle.abi.proofs.making.make_item_change.Tie as tie
 
 returns : tie.Need-returns
-returns c = record { is = λ lent. told-coded 1 _ _ _ _ _ _ _ _ _ _ _ _ (c .before .before .before .before .if1 .taken) (told-start (c .before .before .opc-start .ensures) lent) }
+returns c = record { is = λ lent. told-coded 1 _ _ _ _ _ _ _ _ _ _ _ _ (c .before .before .before .before .if1 .taken) (told-plain (λ a. refl) (λ l a. refl) (c .before .before .opc-start .ensures) lent) }
 
 returns-2 : tie.Need-returns-2
-returns-2 c = record { is = λ lent. told-coded 2 _ _ _ _ _ _ _ _ _ _ _ _ (c .before .before .before .before .if2 .taken) (told-change (c .before .before .opc-put-item .ensures) lent) }
+returns-2 c = record { is = λ lent. told-coded 2 _ _ _ _ _ _ _ _ _ _ _ _ (c .before .before .before .before .if2 .taken) (told-plain (λ a. refl) (λ l a. refl) (c .before .before .opc-put-item .ensures) lent) }
 
 returns-3 : tie.Need-returns-3
-returns-3 c = record { is = λ lent. told-coded 3 _ _ _ _ _ _ _ _ _ _ _ _ (omega arith) (told-change (c .before .before .opc-drop-item .ensures) lent) }
+returns-3 c = record { is = λ lent. told-coded 3 _ _ _ _ _ _ _ _ _ _ _ _ (omega arith) (told-plain (λ a. refl) (λ l a. refl) (c .before .before .opc-drop-item .ensures) lent) }
 
 pub make-item-change-spec : {M : Type 1} → statement M
 make-item-change-spec =
