@@ -1,6 +1,6 @@
 //! Gathering: a put that finds no room behind the other rows first moves them
-//! together. The whole put stands beside the bare moves of the same rows, one
-//! `copy_within` for each.
+//! together. What it takes longer than the same put in a longer buffer stands
+//! beside the bare moves of the same rows, one `copy_within` for each.
 //!
 //! Every package is full before rows are dropped. Tiny rows have 6 bytes, or 9
 //! the relationships. They lie in the heap in the order of their slots, or at
@@ -99,21 +99,31 @@ fn make(moves: &[Move], heap: &mut [u8]) {
     }
 }
 
-/// Prints a line; answers the median of the calls' seconds.
-fn print_line(what: &str, calls: Vec<f64>, moved: Vec<f64>) -> f64 {
-    let (call, moves) = (median(calls), median(moved));
-    let (micros, moved) = (1e6 * call, 1e6 * moves);
-    println!("{what:36} {micros:9.2} {moved:9.2} {:8.2}", call / moves);
-    call
+/// The same package in a longer buffer.
+fn longer(buffer: &[u8], more: usize) -> Vec<u8> {
+    let mut longer = buffer.to_vec();
+    longer.resize(buffer.len() + more, 0);
+    longer
 }
 
-/// A package with gaps, and what a put and the bare moves take.
+/// The seconds of a put, of a put where there is room, and of the bare moves,
+/// for each round.
+type Times = [Vec<f64>; 3];
+
+/// Prints a line; answers the median of the puts.
+fn print_line(what: &str, times: Times) -> f64 {
+    let [put, roomy, moves] = times.map(|times| 1e6 * median(times));
+    let ratio = (put - roomy) / moves;
+    println!("{what:36} {put:9.2} {roomy:9.2} {moves:9.2} {ratio:8.2}");
+    put
+}
+
+/// A package with gaps, and what was timed on it.
 struct Case {
     what: String,
     buffer: Vec<u8>,
     moves: Vec<Move>,
-    calls: Vec<f64>,
-    moved: Vec<f64>,
+    times: Times,
 }
 
 impl Case {
@@ -133,26 +143,36 @@ impl Case {
             what,
             buffer,
             moves: gather(&mut held),
-            calls: Vec::new(),
-            moved: Vec::new(),
+            times: Times::default(),
         }
     }
 
     fn round(&mut self) {
-        let mut copies = vec![self.buffer.clone(); COPIES];
-        let start = seconds();
-        for copy in &mut copies {
+        let mut full = vec![self.buffer.clone(); COPIES];
+        let mut roomy = vec![longer(&self.buffer, 100); COPIES];
+        let mut moved = vec![self.buffer.clone(); COPIES];
+        let put = |copy: &mut Vec<u8>| {
             let put = Package::open(copy).put_item(black_box(b"/x"), b"t");
             put.expect("room");
+        };
+        let seconds = [
+            seconds_of(&mut full, put),
+            seconds_of(&mut roomy, put),
+            seconds_of(&mut moved, |copy| {
+                make(black_box(&self.moves), &mut copy[OVERHEAD..])
+            }),
+        ];
+        for (times, seconds) in self.times.iter_mut().zip(seconds) {
+            times.push(seconds);
         }
-        self.calls.push((seconds() - start) / COPIES as f64);
-        copies.fill(self.buffer.clone());
-        let start = seconds();
-        for copy in &mut copies {
-            make(black_box(&self.moves), &mut copy[OVERHEAD..]);
-        }
-        self.moved.push((seconds() - start) / COPIES as f64);
     }
+}
+
+/// The seconds of a call on each copy.
+fn seconds_of(copies: &mut [Vec<u8>], call: impl FnMut(&mut Vec<u8>)) -> f64 {
+    let start = seconds();
+    copies.iter_mut().for_each(call);
+    (seconds() - start) / COPIES as f64
 }
 
 /// Times a put into packages with one gap before so many rows and with 128
@@ -175,7 +195,7 @@ fn gaps() {
     for _ in 0..ROUNDS {
         cases.iter_mut().for_each(Case::round);
     }
-    let print = |case: Case| print_line(&case.what, case.calls, case.moved);
+    let print = |case: Case| print_line(&case.what, case.times);
     let times: Vec<f64> = cases.into_iter().map(print).collect();
     for (how, times) in hows.iter().zip(times.chunks(sizes.len() + 1)) {
         for (k, pair) in sizes.windows(2).enumerate() {
@@ -198,8 +218,9 @@ fn in_turn(what: &str, count: usize, length: usize) {
         package.put_item(&names[row], &bytes).expect("room");
     });
     let mut heap = vec![7; buffer.len() - OVERHEAD];
-    let mut package = Package::open(&mut buffer);
-    let (mut calls, mut moved) = (Vec::new(), Vec::new());
+    let mut roomy = longer(&buffer, 4_000_000); // gathers once in a thousand puts at most
+    let mut packages = [Package::open(&mut buffer), Package::open(&mut roomy)];
+    let mut times = Times::default();
     for _ in 0..ROUNDS {
         let (mut rows, mut moves) = (Vec::new(), Vec::new());
         for _ in 0..TURNS {
@@ -209,26 +230,28 @@ fn in_turn(what: &str, count: usize, length: usize) {
             last.at = heap.len() - last.size;
             places.push(last);
         }
-        let start = seconds();
-        for &row in black_box(&rows) {
-            package.drop_item(&names[row]).expect("held");
-            package.put_item(&names[row], &bytes).expect("room");
+        for (package, times) in packages.iter_mut().zip(&mut times) {
+            let start = seconds();
+            for &row in black_box(&rows) {
+                package.drop_item(&names[row]).expect("held");
+                package.put_item(&names[row], &bytes).expect("room");
+            }
+            times.push((seconds() - start) / TURNS as f64);
         }
-        calls.push((seconds() - start) / TURNS as f64);
         let start = seconds();
         for moves in black_box(&moves) {
             make(moves, &mut heap);
         }
-        moved.push((seconds() - start) / TURNS as f64);
+        times[2].push((seconds() - start) / TURNS as f64);
     }
     black_box(heap);
-    print_line(what, calls, moved);
+    print_line(what, times);
 }
 
 fn main() {
-    println!("microseconds; ratio: put (or drop and put) / bare moves");
-    let (empty, call, moves, ratio) = ("", "put", "moves", "ratio");
-    println!("{empty:36} {call:>9} {moves:>9} {ratio:>8}");
+    println!("microseconds; ratio: (put - put with room) / bare moves");
+    let (empty, put, roomy, moves, ratio) = ("", "put", "with room", "moves", "ratio");
+    println!("{empty:36} {put:>9} {roomy:>9} {moves:>9} {ratio:>8}");
     gaps();
     in_turn("drop and put, full, 256 tiny", 256, 1);
     in_turn("drop and put, full, 240 of 4 KiB", 240, 4096);

@@ -538,7 +538,7 @@ fn main() {
     support::heading();
     find();
     view();
-    puts_and_drops(["put 4 KiB among 200", "drop from the middle"], 0);
+    puts_and_drops(["put 4 KiB among 200", "drop at random"], 0);
     let longer = ["put, 4 MB longer buffer", "drop, 4 MB longer buffer"];
     puts_and_drops(longer, 4_000_000);
     reads();
