@@ -91,19 +91,20 @@ module _ (s p out q o : Bytes) (k w m : ℕ) (g : Going s p out k w m q o) where
             let lt : length (take w o) ≡ w = length-take-le w o (omega (arith, g .written, g .size)) in
             let dy : drop w₁ ys ≡ drop w₁ O = ap (drop w₁) eo ∙ drop-at text (drop w₁ O) w₁ len in
             let inside : (k₁ ≤ length s - k) = omega (arith, call-inside S e .1, length-drop k s) in
-            let taken : take (w + w₁) o′ ≡ take w o ++ text = ap (take (w + w₁)) o′-is ∙ ap (λ (n : ℕ). take (n + w₁) (take w o ++ ys)) (sym lt) ∙ take-append-add (take w o) ys w₁ ∙ ap (λ (y : Bytes). take w o ++ y) (ap (take w₁) eo ∙ take-at text (drop w₁ O) w₁ len) in
-            (inside,
-            record {
-              read = omega (arith, g .read);
-              written = omega (arith, g .written);
-              few = omega (arith, g .few, call-inside S e .0);
-              size = ap length o′-is ∙ length-append (take w o) ys ∙ omega (arith, g .written, g .size);
-              rest = ap (drop (w + w₁)) o′-is ∙ ap (λ (n : ℕ). drop (n + w₁) (take w o ++ ys)) (sym lt) ∙ drop-append-add (take w o) ys w₁ ∙ dy ∙ drop-drop w₁ w out;
-              on = λ r more w′ k′ m′ x.
-                  let x₁ : Scripted (drop (sizeOf S) S) q′ (drop (w + w₁) out) r more w′ k′ m′ =
-                  subst (λ (y : Bytes). Scripted y q′ (drop (w + w₁) out) r more w′ k′ m′) (sym (drop-drop k₁ k s) ∙ ap (λ (n : ℕ). drop n S) ek) x in
-                  let x₂ : Scripted (drop (sizeOf S) S) q′ (drop (spanOf S) O) r more w′ k′ m′ =
-                  subst (λ (y : Bytes). Scripted (drop (sizeOf S) S) q′ y r more w′ k′ m′) (sym (drop-drop w₁ w out) ∙ ap (λ (n : ℕ). drop n O) ew) x₁ in
-                  scripted-as (g .on r (text ++ more) (spanOf S + w′) (sizeOf S + k′) (suc m′) (run-made e (subst (λ (n : ℕ). n ≤ length O) ew f) ran (len ∙ ew) x₂)) refl
-                  (sym (append-assoc (take w o) text more) ∙ ap (λ (y : Bytes). y ++ more) (sym taken)) (omega arith) (omega arith) (omega arith);
-            })
+            let taken : take (w + w₁) o′ ≡ take w o ++ text = ap (take (w + w₁)) o′-is ∙ ap (λ (n : ℕ). take (n + w₁) (take w o ++ ys)) (sym lt) ∙ take-append-add (take w o) ys w₁ ∙ ap (λ (y : Bytes). take w o ++ y) (ap (take w₁) eo ∙ take-at text (drop w₁ O) w₁ len) in (
+              inside,
+              record {
+                read = omega (arith, g .read);
+                written = omega (arith, g .written);
+                few = omega (arith, g .few, call-inside S e .0);
+                size = ap length o′-is ∙ length-append (take w o) ys ∙ omega (arith, g .written, g .size);
+                rest = ap (drop (w + w₁)) o′-is ∙ ap (λ (n : ℕ). drop (n + w₁) (take w o ++ ys)) (sym lt) ∙ drop-append-add (take w o) ys w₁ ∙ dy ∙ drop-drop w₁ w out;
+                on = λ r more w′ k′ m′ x.
+                    let x₁ : Scripted (drop (sizeOf S) S) q′ (drop (w + w₁) out) r more w′ k′ m′ =
+                    subst (λ (y : Bytes). Scripted y q′ (drop (w + w₁) out) r more w′ k′ m′) (sym (drop-drop k₁ k s) ∙ ap (λ (n : ℕ). drop n S) ek) x in
+                    let x₂ : Scripted (drop (sizeOf S) S) q′ (drop (spanOf S) O) r more w′ k′ m′ =
+                    subst (λ (y : Bytes). Scripted (drop (sizeOf S) S) q′ y r more w′ k′ m′) (sym (drop-drop w₁ w out) ∙ ap (λ (n : ℕ). drop n O) ew) x₁ in
+                    scripted-as (g .on r (text ++ more) (spanOf S + w′) (sizeOf S + k′) (suc m′) (run-made e (subst (λ (n : ℕ). n ≤ length O) ew f) ran (len ∙ ew) x₂)) refl
+                    (sym (append-assoc (take w o) text more) ∙ ap (λ (y : Bytes). y ++ more) (sym taken)) (omega arith) (omega arith) (omega arith);
+              },
+            )
