@@ -7,15 +7,7 @@ use Rattle.rfc3986.proofs.print_text.Tie as tie
 slice-aggregate-write-all : tie.Need-slice-aggregate-write-all
 slice-aggregate-write-all c = sym (length-take-le _ _ (c .before .if1 .taken))
 
-write-all-requires : tie.Need-write-all-requires
-write-all-requires c κs = search needs
-
-returns : tie.Need-returns
-returns c = search needs
-
-returns-2 : tie.Need-returns-2
-returns-2 c = search needs
-
 pub print-text-spec : {M : Type 1} → statement M
 print-text-spec =
-    tie.close (tie.spec slice-aggregate-write-all write-all-requires returns returns-2)
+    tie.close (tie.spec
+    slice-aggregate-write-all (λ c κs. search needs) (λ c. search needs) (λ c. search needs))

@@ -12,49 +12,35 @@ Inv-loop input i₀ i = i ≤ length input + 1
 abbrev μ-loop : tie.MeasureT-loop
 μ-loop input i₀ i = length input + 1 - i
 
-loop-holds : tie.Need-loop-holds Inv-loop μ-loop
-loop-holds c = search needs
-
-find-requires : tie.Need-find-requires Inv-loop μ-loop
-find-requires c κs = search needs
-
-sub-run-line : tie.Need-sub-run-line Inv-loop μ-loop
-sub-run-line c = omega (arith, c .find .ensures)
-
-part-run-line-start : tie.Need-part-run-line-start Inv-loop μ-loop
-part-run-line-start c = search needs
-
 part-run-line-end : tie.Need-part-run-line-end Inv-loop μ-loop
-part-run-line-end c = let l = stretch-le 10 (c .before .before .before .before .args .input .now) (c .before .before .loop .i) _ (c .find .ensures) (omega arith) in search needs
-
-run-line-requires : tie.Need-run-line-requires Inv-loop μ-loop
-run-line-requires c κs = search needs
+part-run-line-end c =
+    let at-loop = c .before .before in
+    let at-args = at-loop .before .before in
+    let l = stretch-le 10 (at-args .args .input .now) (at-loop .loop .i) _ (c .find .ensures) (omega arith) in
+    search needs
 
 add-i : tie.Need-add-i Inv-loop μ-loop
-add-i c = let l = stretch-le 10 (c .before .before .before .before .before .before .args .input .now) (c .before .before .before .before .loop .i) _ (c .before .before .find .ensures) (omega arith) in omega arith
+add-i c =
+    let at-find = c .before .before in
+    let at-loop = at-find .before .before in
+    let at-args = at-loop .before .before in
+    let l = stretch-le 10 (at-args .args .input .now) (at-loop .loop .i) _ (at-find .find .ensures) (omega arith) in
+    omega arith
 
 loop-less : tie.Need-loop-less Inv-loop μ-loop
 loop-less c = omega (arith, c .before .before .find .ensures)
 
 loop-again : tie.Need-loop-again Inv-loop μ-loop
-loop-again c = let l = stretch-le 10 (c .before .before .before .before .before .before .args .input .now) (c .before .before .before .before .loop .i) _ (c .before .before .find .ensures) (omega arith) in search needs
-
-returns : tie.Need-returns Inv-loop μ-loop
-returns c = search needs
+loop-again c =
+    let at-find = c .before .before in
+    let at-loop = at-find .before .before in
+    let at-args = at-loop .before .before in
+    let l = stretch-le 10 (at-args .args .input .now) (at-loop .loop .i) _ (at-find .find .ensures) (omega arith) in
+    search needs
 
 pub run-lines-spec : {M : Type 1} → statement M
 run-lines-spec =
     tie.close
     (tie.spec
-    Inv-loop
-    μ-loop
-    loop-holds
-    find-requires
-    sub-run-line
-    part-run-line-start
-    part-run-line-end
-    run-line-requires
-    add-i
-    loop-less
-    loop-again
-    returns)
+    Inv-loop μ-loop (λ c. search needs) (λ c κs. search needs) (λ c. omega (arith, c .find .ensures)) (λ c. search needs) part-run-line-end
+    (λ c κs. search needs) add-i loop-less loop-again (λ c. search needs))

@@ -7,7 +7,8 @@ use Rattle.sheet.proofs.run.Tie as tie
 
 run-all-requires : tie.Need-run-all-requires
 run-all-requires c κs =
-    let at-call = c .before .before .before .before .before .before .before .before in
+    let at-start' = c .before .before .before .before .before .before .before .before in
+    let at-call = at-start' in
     let at-start = at-call .before .before .before .before .before .before in
     ready-begin _ _ _ (started-holds _ _ _ (at-start .pre .0) (at-call .start .ensures)) (at-start .pre .1) (at-start .pre .2)
 
@@ -15,17 +16,21 @@ slice-reshare-prefix-print : tie.Need-slice-reshare-prefix-print
 slice-reshare-prefix-print c =
     let at-finish = c .before .before .before .before in
     let at-run-all = at-finish .before .before .before .before .before .before .before .before .before .before .before .before in
-    omega (arith, ready-last _ _ _ _ _ _ (at-run-all .run-all .ensures) _ _ (at-finish .finish .ensures) (at-finish .finish .kept .1 .1 .1 .0) .0)
+    omega (arith, ready-last _ _ _ _ _ _ (at-run-all .run-all .ensures) _ _ (at-finish .finish .ensures)
+    (at-finish .finish .kept .1 .1 .1 .0) .0)
 
 slice-aggregate-print : tie.Need-slice-aggregate-print
 slice-aggregate-print c =
-    let at-finish = c .before .before .before .before .before in
+    let at-start = c .before .before .before .before .before in
+    let at-finish = at-start in
     let at-run-all = at-finish .before .before .before .before .before .before .before .before .before .before .before .before in
-    omega (arith, ready-last _ _ _ _ _ _ (at-run-all .run-all .ensures) _ _ (at-finish .finish .ensures) (at-finish .finish .kept .1 .1 .1 .0) .1)
+    omega (arith, ready-last _ _ _ _ _ _ (at-run-all .run-all .ensures) _ _ (at-finish .finish .ensures)
+    (at-finish .finish .kept .1 .1 .1 .0) .1)
 
 returns : tie.Need-returns
 returns c =
-    let at-finish = c .before .before .before .before .before .before .before in
+    let at-start = c .before .before .before .before .before .before .before in
+    let at-finish = at-start in
     let at-run-all = at-finish .before .before .before .before .before .before .before .before .before .before .before .before in
     ready-whole _ _ _ _ _ _ (at-run-all .run-all .ensures) _ _ (at-finish .finish .ensures) _ (c .print .ensures)
 
@@ -33,9 +38,5 @@ pub run-spec : {M : Type 1} → statement M
 run-spec =
     tie.close
     (tie.spec
-    (λ c κs. search needs)
-    run-all-requires
-    (λ c κs. search needs)
-    slice-reshare-prefix-print slice-aggregate-print
-    (λ c κs. search needs) (λ c. search needs) (λ c. search needs) (λ c. search needs) (λ c. search needs)
-    returns)
+    (λ c κs. search needs) run-all-requires (λ c κs. search needs) slice-reshare-prefix-print slice-aggregate-print (λ c κs. search needs)
+    (λ c. search needs) (λ c. search needs) (λ c. search needs) (λ c. search needs) returns)

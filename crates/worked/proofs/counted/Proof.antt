@@ -20,7 +20,8 @@ same-length c =
     let at-put-item2 = at-put-default .before .before .before .before .before .before in
     let at-put-item = at-put-item2 .before .before .before .before .before .before in
     let at-start = at-put-item .before .before .before .before .before .before in
-    at-drop-default .drop-default .kept .0 ∙ at-drop-item .drop-item .kept .0 ∙ at-put-default .put-default .kept .0 ∙ at-put-item2 .put-item2 .kept .0 ∙ at-put-item .put-item .kept .0 ∙ at-start .start .kept .0
+    at-drop-default .drop-default .kept .0 ∙ at-drop-item .drop-item .kept .0 ∙ at-put-default .put-default .kept .0 ∙
+    at-put-item2 .put-item2 .kept .0 ∙ at-put-item .put-item .kept .0 ∙ at-start .start .kept .0
 
 returns : tie.Need-returns
 returns c =
@@ -31,9 +32,11 @@ returns c =
     let at-put-item = at-put-item2 .before .before .before .before .before .before in
     let at-start = at-put-item .before .before .before .before .before .before in
     let entry = at-start .before .before .before in
-    let k =
-    every-run _ _ _ _ _ _ (at-start .start .ensures) (accepted 100 _ _ _ (omega arith) (entry .pre) (at-start .start .ensures))
-    (more (at-put-item .put-item .ensures) (more (at-put-item2 .put-item2 .ensures) (more (at-put-default .put-default .ensures) (more (at-drop-item .drop-item .ensures) (more (at-drop-default .drop-default .ensures) (more (c .totals .ensures) none)))))) in
+    let k = every-run _ _ _ _ _ _ (at-start .start .ensures) (accepted 100 _ _ _ (omega arith) (entry .pre) (at-start .start .ensures))
+    (more (at-put-item .put-item .ensures)
+    (more (at-put-item2 .put-item2 .ensures)
+    (more (at-put-default .put-default .ensures)
+    (more (at-drop-item .drop-item .ensures) (more (at-drop-default .drop-default .ensures) (more (c .totals .ensures) none)))))) in
     totals-of (c .totals .result) 1 1 11 (omega arith) (ap (λ (l : List Answer). getD l 5 done) (k .answered) ∙ counted-last _)
 
 pub counted-spec : {M : Type 1} → statement M
@@ -42,5 +45,4 @@ counted-spec =
     (tie.spec
     (λ c κs. search needs) (λ c. search needs) (λ c. search needs) (λ c κs. search needs) (λ c. search needs) (λ c. search needs)
     (λ c κs. search needs) (λ c. search needs) (λ c. search needs) (λ c κs. search needs) (λ c. search needs) (λ c κs. search needs)
-    (λ c. search needs) (λ c κs. search needs) (λ c κs. search needs)
-    same-length returns)
+    (λ c. search needs) (λ c κs. search needs) (λ c κs. search needs) same-length returns)

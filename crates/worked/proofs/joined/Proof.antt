@@ -20,9 +20,9 @@ returns c =
     let at-put-item = at-put-item2 .before .before .before .before .before .before in
     let at-start = at-put-item .before .before .before .before .before .before in
     let entry = at-start .before .before .before .before .before in
-    let k =
-    every-run _ _ _ _ _ _ (at-start .start .ensures) (accepted 100 _ _ _ (omega arith) (entry .pre .0) (at-start .start .ensures))
-    (more (at-put-item .put-item .ensures) (more (at-put-item2 .put-item2 .ensures) (more (at-part-at .part-at .ensures) (more (at-read-part .read-part .ensures) none)))) in
+    let k = every-run _ _ _ _ _ _ (at-start .start .ensures) (accepted 100 _ _ _ (omega arith) (entry .pre .0) (at-start .start .ensures))
+    (more (at-put-item .put-item .ensures)
+    (more (at-put-item2 .put-item2 .ensures) (more (at-part-at .part-at .ensures) (more (at-read-part .read-part .ensures) none)))) in
     ap (λ (l : List Answer). getD l 3 done) (k .answered) ∙ joined-last _ _ _ (entry .pre .1)
 
 pub joined-spec : {M : Type 1} → statement M
@@ -31,5 +31,4 @@ joined-spec =
     (tie.spec
     (λ c κs. search needs) (λ c. search needs) (λ c. search needs) (λ c κs. search needs) (λ c. search needs) (λ c. search needs)
     (λ c κs. search needs) (λ c κs. search needs) (λ c. search needs) (λ c κs. search needs) (λ c. search needs) (λ c. search needs)
-    (λ c. search needs)
-    returns)
+    (λ c. search needs) returns)

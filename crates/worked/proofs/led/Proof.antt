@@ -13,11 +13,13 @@ use Rattle.worked.proofs.led.Tie as tie
 
 same-length : tie.Need-same-length
 same-length c =
-    let at-put-relationship = c .before .before .before .before .before .before .before .before .before .before .before .before .before .before .before in
+    let at-start' = c .before .before .before .before .before .before .before .before .before .before .before .before .before .before .before in
+    let at-put-relationship = at-start' in
     let at-put-item = at-put-relationship .before .before .before .before .before .before .before .before in
     let at-put-default = at-put-item .before .before .before .before .before .before in
     let at-start = at-put-default .before .before .before .before .before .before in
-    at-put-relationship .put-relationship .kept .0 ∙ at-put-item .put-item .kept .0 ∙ at-put-default .put-default .kept .0 ∙ at-start .start .kept .0
+    at-put-relationship .put-relationship .kept .0 ∙ at-put-item .put-item .kept .0 ∙ at-put-default .put-default .kept .0 ∙
+    at-start .start .kept .0
 
 returns : tie.Need-returns
 returns c =
@@ -28,9 +30,11 @@ returns c =
     let at-put-default = at-put-item .before .before .before .before .before .before in
     let at-start = at-put-default .before .before .before .before .before .before in
     let entry = at-start .before .before .before .before .before in
-    let k =
-    every-run _ _ _ _ _ _ (at-start .start .ensures) (accepted 200 _ _ _ (omega arith) (entry .pre .0) (at-start .start .ensures))
-    (more (at-put-default .put-default .ensures) (more (at-put-item .put-item .ensures) (more (at-put-relationship .put-relationship .ensures) (more (at-write-types .write-types .ensures) (more (at-resolve-relationship .resolve-relationship .ensures) none))))) in
+    let k = every-run _ _ _ _ _ _ (at-start .start .ensures) (accepted 200 _ _ _ (omega arith) (entry .pre .0) (at-start .start .ensures))
+    (more (at-put-default .put-default .ensures)
+    (more (at-put-item .put-item .ensures)
+    (more (at-put-relationship .put-relationship .ensures)
+    (more (at-write-types .write-types .ensures) (more (at-resolve-relationship .resolve-relationship .ensures) none))))) in
     ap (λ (l : List Answer). getD l 4 done) (k .answered) ∙ led-last _ _ _ (entry .pre .1)
 
 pub led-spec : {M : Type 1} → statement M
@@ -39,7 +43,5 @@ led-spec =
     (tie.spec
     (λ c κs. search needs) (λ c. search needs) (λ c. search needs) (λ c κs. search needs) (λ c. search needs) (λ c. search needs)
     (λ c κs. search needs) (λ c. search needs) (λ c. search needs) (λ c. search needs) (λ c. search needs) (λ c κs. search needs)
-    (λ c κs. search needs) (λ c. search needs) (λ c. search needs) (λ c. search needs) (λ c κs. search needs)
-    same-length
-    (λ c. search needs) (λ c. search needs)
-    returns)
+    (λ c κs. search needs) (λ c. search needs) (λ c. search needs) (λ c. search needs) (λ c κs. search needs) same-length
+    (λ c. search needs) (λ c. search needs) returns)

@@ -14,11 +14,13 @@ use Rattle.worked.proofs.linked.Tie as tie
 
 same-length : tie.Need-same-length
 same-length c =
-    let at-drop-relationship = c .before .before .before .before .before .before .before .before in
+    let at-start' = c .before .before .before .before .before .before .before .before in
+    let at-drop-relationship = at-start' in
     let at-put-relationship2 = at-drop-relationship .before .before .before .before .before .before in
     let at-put-relationship = at-put-relationship2 .before .before .before .before .before .before .before .before in
     let at-start = at-put-relationship .before .before .before .before .before .before .before .before in
-    at-drop-relationship .drop-relationship .kept .0 ∙ at-put-relationship2 .put-relationship2 .kept .0 ∙ at-put-relationship .put-relationship .kept .0 ∙ at-start .start .kept .0
+    at-drop-relationship .drop-relationship .kept .0 ∙ at-put-relationship2 .put-relationship2 .kept .0 ∙
+    at-put-relationship .put-relationship .kept .0 ∙ at-start .start .kept .0
 
 returns : tie.Need-returns
 returns c =
@@ -28,9 +30,10 @@ returns c =
     let at-put-relationship = at-put-relationship2 .before .before .before .before .before .before .before .before in
     let at-start = at-put-relationship .before .before .before .before .before .before .before .before in
     let entry = at-start .before .before .before .before in
-    let k =
-    every-run _ _ _ _ _ _ (at-start .start .ensures) (accepted 100 _ _ _ (omega arith) (entry .pre .0) (at-start .start .ensures))
-    (more (at-put-relationship .put-relationship .ensures) (more (at-put-relationship2 .put-relationship2 .ensures) (more (at-drop-relationship .drop-relationship .ensures) (more (at-write-relationships .write-relationships .ensures) none)))) in
+    let k = every-run _ _ _ _ _ _ (at-start .start .ensures) (accepted 100 _ _ _ (omega arith) (entry .pre .0) (at-start .start .ensures))
+    (more (at-put-relationship .put-relationship .ensures)
+    (more (at-put-relationship2 .put-relationship2 .ensures)
+    (more (at-drop-relationship .drop-relationship .ensures) (more (at-write-relationships .write-relationships .ensures) none)))) in
     ap (λ (l : List Answer). getD l 3 done) (k .answered) ∙ linked-last _ _ (entry .pre .1)
 
 pub linked-spec : {M : Type 1} → statement M
@@ -39,7 +42,4 @@ linked-spec =
     (tie.spec
     (λ c κs. search needs) (λ c. search needs) (λ c. search needs) (λ c. search needs) (λ c. search needs) (λ c κs. search needs)
     (λ c. search needs) (λ c. search needs) (λ c. search needs) (λ c. search needs) (λ c κs. search needs) (λ c. search needs)
-    (λ c. search needs) (λ c κs. search needs) (λ c. search needs) (λ c κs. search needs)
-    same-length
-    (λ c. search needs)
-    returns)
+    (λ c. search needs) (λ c κs. search needs) (λ c. search needs) (λ c κs. search needs) same-length (λ c. search needs) returns)

@@ -6,73 +6,58 @@ use borrow.Author.Needs.{needs}
 use Rattle.worked.proofs.returned.Statement.{statement}
 use Rattle.worked.proofs.returned.Tie as tie
 
-compose-requires : tie.Need-compose-requires
-compose-requires c κs = search needs
-
-enum-known-n : tie.Need-enum-known-n
-enum-known-n c = search needs
-
 slice-reshare-prefix-resolve-pack : tie.Need-slice-reshare-prefix-resolve-pack
 slice-reshare-prefix-resolve-pack c =
-    let at-compose = c .before .before .before .before .before in
+    let at-n = c .before in
+    let at-start = at-n .before .before .before .before in
+    let at-compose = at-start in
     let start = at-compose .before .before .before .before .before .before in
     let h = start .pre in
-    let few = bytes-few _ _ _ (h .0) (h .1) (h .2) (at-compose .compose .result) _ _ (at-compose .compose .ensures) (c .before .n .given .1) in
+    let few = bytes-few _ _ _ (h .0) (h .1) (h .2) (at-compose .compose .result) _ _ (at-compose .compose .ensures) (at-n .n .given .1) in
     omega (arith, at-compose .compose .kept .1 .1 .0)
 
 slice-aggregate-resolve-pack : tie.Need-slice-aggregate-resolve-pack
 slice-aggregate-resolve-pack c =
-    let at-compose = c .before .before .before .before .before .before in
+    let at-n = c .before .before in
+    let at-start = at-n .before .before .before .before in
+    let at-compose = at-start in
     let start = at-compose .before .before .before .before .before .before in
     let h = start .pre in
-    let few = bytes-few _ _ _ (h .0) (h .1) (h .2) (at-compose .compose .result) _ _ (at-compose .compose .ensures) (c .before .before .n .given .1) in
+    let few = bytes-few _ _ _ (h .0) (h .1) (h .2) (at-compose .compose .result) _ _ (at-compose .compose .ensures) (at-n .n .given .1) in
     sym (length-take-le _ _ (omega (arith, at-compose .compose .kept .1 .1 .0)))
-
-resolve-pack-requires : tie.Need-resolve-pack-requires
-resolve-pack-requires c κs = search needs
-
-enum-told : tie.Need-enum-told
-enum-told c = search needs
-
-enum-known-k : tie.Need-enum-known-k
-enum-known-k c = search needs
-
-same-length : tie.Need-same-length
-same-length c = search needs
-
-same-length-2 : tie.Need-same-length-2
-same-length-2 c = search needs
 
 returns : tie.Need-returns
 returns c =
-    let at-compose = c .before .before .before .before .before .before .before .before .before .before in
+    let at-resolve-pack = c .before .before in
+    let at-n = at-resolve-pack .before .before .before .before in
+    let at-start = at-n .before .before .before .before in
+    let at-compose = at-start in
     let start = at-compose .before .before .before .before .before .before in
     let h = start .pre in
-    c .before .before .resolve-pack .ensures ∙ resolved-back _ _ _ (h .0) (h .1) (h .2) (at-compose .compose .result) _ _ _ (at-compose .compose .ensures) (c .before .before .before .before .before .before .n .given .1)
-
-same-length-3 : tie.Need-same-length-3
-same-length-3 c = search needs
+    at-resolve-pack .resolve-pack .ensures ∙ resolved-back _ _ _ (h .0) (h .1) (h .2) (at-compose .compose .result) _ _ _
+    (at-compose .compose .ensures) (at-n .n .given .1)
 
 returns-2 : tie.Need-returns-2
 returns-2 c =
     let at-compose = c .before .before .before .before in
     let start = at-compose .before .before .before .before .before .before in
     let h = start .pre in
-    absurd (never-short _ _ _ (h .0) (h .1) (h .2) (at-compose .compose .result) _ _ (at-compose .compose .ensures) (c .enum-told .given .1))
-
-same-length-4 : tie.Need-same-length-4
-same-length-4 c = search needs
+    absurd (never-short _ _ _ (h .0) (h .1) (h .2) (at-compose .compose .result) _ _ (at-compose .compose .ensures)
+    (c .enum-told .given .1))
 
 returns-3 : tie.Need-returns-3
 returns-3 c =
-    let at-compose = c .before .before .before .before .before in
+    let at-k = c .before in
+    let at-start = at-k .before .before .before .before in
+    let at-compose = at-start in
     let start = at-compose .before .before .before .before .before .before in
     let h = start .pre in
-    absurd (never-refused _ _ _ (h .0) (h .1) (h .2) (at-compose .compose .result) _ _ (at-compose .compose .ensures) (c .before .k .given .1))
+    absurd (never-refused _ _ _ (h .0) (h .1) (h .2) (at-compose .compose .result) _ _ (at-compose .compose .ensures) (at-k .k .given .1))
 
 pub returned-spec : {M : Type 1} → statement M
 returned-spec =
     tie.close
     (tie.spec
-    compose-requires enum-known-n slice-reshare-prefix-resolve-pack slice-aggregate-resolve-pack resolve-pack-requires enum-told
-    enum-known-k same-length same-length-2 returns same-length-3 returns-2 same-length-4 returns-3)
+    (λ c κs. search needs) (λ c. search needs) slice-reshare-prefix-resolve-pack slice-aggregate-resolve-pack (λ c κs. search needs)
+    (λ c. search needs) (λ c. search needs) (λ c. search needs) (λ c. search needs) returns (λ c. search needs) returns-2
+    (λ c. search needs) returns-3)

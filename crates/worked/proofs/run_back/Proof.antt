@@ -13,6 +13,5 @@ pub run-back-spec : {M : Type 1} → statement M
 run-back-spec =
     tie.close
     (tie.spec
-    (λ c. search needs) (λ c. search needs) (λ c. search needs) (λ c κs. example-composed) (λ c. search needs)
-    expect-requires
+    (λ c. search needs) (λ c. search needs) (λ c. search needs) (λ c κs. example-composed) (λ c. search needs) expect-requires
     (λ c. search needs))

@@ -18,28 +18,26 @@ expect-requires c κs =
 expect-requires-2 : tie.Need-expect-requires-2
 expect-requires-2 c κs =
     let at-typed = c .before .before .before in
-    eq-eqb _ 102 (ap (λ (o : Bytes). getD o 9 0) (wrote-output (at-typed .typed .result) typedAs _ (replicate 10 0) (omega arith) (at-typed .typed .ensures)))
+    eq-eqb _ 102 (ap (λ (o : Bytes). getD o 9 0)
+    (wrote-output (at-typed .typed .result) typedAs _ (replicate 10 0) (omega arith) (at-typed .typed .ensures)))
 
 expect-requires-3 : tie.Need-expect-requires-3
 expect-requires-3 c κs =
     let at-joined = c .before .before .before .before in
-    eq-eqb _ 100 (ap (λ (o : Bytes). getD o 2 0) (wrote-output (at-joined .joined .result) joinedFrom _ (replicate 3 0) (omega arith) (at-joined .joined .ensures)))
+    eq-eqb _ 100 (ap (λ (o : Bytes). getD o 2 0)
+    (wrote-output (at-joined .joined .result) joinedFrom _ (replicate 3 0) (omega arith) (at-joined .joined .ensures)))
 
 expect-requires-4 : tie.Need-expect-requires-4
 expect-requires-4 c κs =
     let at-linked = c .before .before .before in
-    eq-eqb _ 10 (ap (λ (o : Bytes). getD o 217 0) (wrote-output (at-linked .linked .result) linkedText _ (replicate 218 0) (omega arith) (at-linked .linked .ensures)))
+    eq-eqb _ 10 (ap (λ (o : Bytes). getD o 217 0)
+    (wrote-output (at-linked .linked .result) linkedText _ (replicate 218 0) (omega arith) (at-linked .linked .ensures)))
 
 pub run-writers-spec : {M : Type 1} → statement M
 run-writers-spec =
     tie.close
     (tie.spec
-    (λ c. search needs) (λ c. search needs) (λ c κs. search needs) (λ c. search needs)
-    expect-requires
-    (λ c. search needs) (λ c κs. search needs) (λ c. search needs)
-    expect-requires-2
-    (λ c. search needs) (λ c. search needs) (λ c κs. search needs) (λ c. search needs)
-    expect-requires-3
-    (λ c. search needs) (λ c κs. search needs) (λ c. search needs)
-    expect-requires-4
+    (λ c. search needs) (λ c. search needs) (λ c κs. search needs) (λ c. search needs) expect-requires (λ c. search needs)
+    (λ c κs. search needs) (λ c. search needs) expect-requires-2 (λ c. search needs) (λ c. search needs) (λ c κs. search needs)
+    (λ c. search needs) expect-requires-3 (λ c. search needs) (λ c κs. search needs) (λ c. search needs) expect-requires-4
     (λ c. search needs) (λ c. search needs))

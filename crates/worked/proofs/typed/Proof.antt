@@ -21,9 +21,11 @@ returns c =
     let at-put-item = at-put-default .before .before .before .before .before .before in
     let at-start = at-put-item .before .before .before .before .before .before in
     let entry = at-start .before .before .before .before in
-    let k =
-    every-run _ _ _ _ _ _ (at-start .start .ensures) (accepted 100 _ _ _ (omega arith) (entry .pre .0) (at-start .start .ensures))
-    (more (at-put-item .put-item .ensures) (more (at-put-default .put-default .ensures) (more (at-put-override .put-override .ensures) (more (at-drop-override .drop-override .ensures) (more (at-media-type .media-type .ensures) none))))) in
+    let k = every-run _ _ _ _ _ _ (at-start .start .ensures) (accepted 100 _ _ _ (omega arith) (entry .pre .0) (at-start .start .ensures))
+    (more (at-put-item .put-item .ensures)
+    (more (at-put-default .put-default .ensures)
+    (more (at-put-override .put-override .ensures)
+    (more (at-drop-override .drop-override .ensures) (more (at-media-type .media-type .ensures) none))))) in
     ap (λ (l : List Answer). getD l 4 done) (k .answered) ∙ typed-last _ _ (entry .pre .1)
 
 pub typed-spec : {M : Type 1} → statement M
@@ -32,5 +34,4 @@ typed-spec =
     (tie.spec
     (λ c κs. search needs) (λ c. search needs) (λ c. search needs) (λ c κs. search needs) (λ c. search needs) (λ c. search needs)
     (λ c κs. search needs) (λ c. search needs) (λ c. search needs) (λ c κs. search needs) (λ c. search needs) (λ c κs. search needs)
-    (λ c. search needs) (λ c κs. search needs) (λ c. search needs) (λ c. search needs)
-    returns)
+    (λ c. search needs) (λ c κs. search needs) (λ c. search needs) (λ c. search needs) returns)

@@ -14,14 +14,15 @@ use Rattle.worked.proofs.viewed.Tie as tie
 
 returns : tie.Need-returns
 returns c =
-    let at-put-item3 = c .before .before .before .before .before in
+    let at-start' = c .before .before .before .before .before in
+    let at-put-item3 = at-start' in
     let at-put-item2 = at-put-item3 .before .before .before .before .before .before in
     let at-put-item = at-put-item2 .before .before .before .before .before .before in
     let at-start = at-put-item .before .before .before .before .before .before in
     let entry = at-start .before .before .before in
-    let k =
-    every-run _ _ _ _ _ _ (at-start .start .ensures) (accepted 100 _ _ _ (omega arith) (entry .pre) (at-start .start .ensures))
-    (more (at-put-item .put-item .ensures) (more (at-put-item2 .put-item2 .ensures) (more (at-put-item3 .put-item3 .ensures) (more (c .view-item .ensures) none)))) in
+    let k = every-run _ _ _ _ _ _ (at-start .start .ensures) (accepted 100 _ _ _ (omega arith) (entry .pre) (at-start .start .ensures))
+    (more (at-put-item .put-item .ensures)
+    (more (at-put-item2 .put-item2 .ensures) (more (at-put-item3 .put-item3 .ensures) (more (c .view-item .ensures) none)))) in
     ap (λ (l : List Answer). getD l 3 done .output) (k .answered) ∙ viewed-last _
 
 pub viewed-spec : {M : Type 1} → statement M
@@ -29,5 +30,4 @@ viewed-spec =
     tie.close
     (tie.spec
     (λ c κs. search needs) (λ c. search needs) (λ c. search needs) (λ c κs. search needs) (λ c. search needs) (λ c. search needs)
-    (λ c κs. search needs) (λ c. search needs) (λ c. search needs) (λ c κs. search needs) (λ c. search needs) (λ c κs. search needs)
-    returns)
+    (λ c κs. search needs) (λ c. search needs) (λ c. search needs) (λ c κs. search needs) (λ c. search needs) (λ c κs. search needs) returns)

@@ -4,20 +4,15 @@ use borrow.Author.Needs.{needs}
 use Rattle.abi.proofs.iris.opc_resolve_reference.Statement.{statement}
 use Rattle.abi.proofs.iris.opc_resolve_reference.Tie as tie
 
-resolve-reference-requires : tie.Need-resolve-reference-requires
-resolve-reference-requires c κs = search needs
-
-of-written-requires : tie.Need-of-written-requires
-of-written-requires c κs = search needs
-
-same-length : tie.Need-same-length
-same-length c = search needs
-
 returns : tie.Need-returns
 returns c =
-    let given = c .before .before .before .before .before .before .before .before .args in
-    written-handed (resolveReference (given .base .now) (given .reference .now)) (given .out .now) _ _ _ (c .before .before .before .resolve-reference .ensures) (c .of-written .ensures _)
+    let at-resolve-reference = c .before .before .before in
+    let args = at-resolve-reference .before .before .before .before .before .args in
+    let given = args in
+    written-handed (resolveReference (given .base .now) (given .reference .now)) (given .out .now) _ _ _
+    (at-resolve-reference .resolve-reference .ensures) (c .of-written .ensures _)
 
 pub opc-resolve-reference-spec : {M : Type 1} → statement M
 opc-resolve-reference-spec =
-    tie.close (tie.spec resolve-reference-requires of-written-requires same-length returns)
+    tie.close (tie.spec
+    (λ c κs. search needs) (λ c κs. search needs) (λ c. search needs) returns)

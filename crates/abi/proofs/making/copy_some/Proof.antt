@@ -9,10 +9,16 @@ slice-aggregate-copy-in : tie.Need-slice-aggregate-copy-in
 slice-aggregate-copy-in c = sym (length-take-le _ _ (c .before .before .smaller .ensures .1))
 
 copy-in-requires : tie.Need-copy-in-requires
-copy-in-requires c κs = some-fits _ (c .before .before .before .before .before .args .out .now) _ (c .before .before .smaller .ensures .2)
+copy-in-requires c κs =
+    let at-smaller = c .before .before in
+    let args = at-smaller .before .before .before .args in
+    some-fits _ (args .out .now) _ (at-smaller .smaller .ensures .2)
 
 returns : tie.Need-returns
-returns c = copied-some _ _ _ _ (c .before .before .before .before .before .smaller .ensures .0) (c .before .before .copy-in .ensures)
+returns c =
+    let at-copy-in = c .before .before in
+    let smaller = at-copy-in .before .before .before .smaller in
+    copied-some _ _ _ _ (smaller .ensures .0) (at-copy-in .copy-in .ensures)
 
 pub copy-some-spec : {M : Type 1} → statement M
 copy-some-spec = tie.close (tie.spec

@@ -6,24 +6,15 @@ use borrow.Author.Needs.{needs}
 use Rattle.abi.proofs.replies.of_found.Statement.{statement}
 use Rattle.abi.proofs.replies.of_found.Tie as tie
 
-enum-known-d : tie.Need-enum-known-d
-enum-known-d c = search needs
-
-one-requires : tie.Need-one-requires
-one-requires c κs = search needs
-
-enum-known-d-2 : tie.Need-enum-known-d-2
-enum-known-d-2 c = search needs
-
-one-requires-2 : tie.Need-one-requires-2
-one-requires-2 c κs = search needs
-
 returns : tie.Need-returns
 returns c = λ z. hands _ _ _ _ _ (c .one .ensures) refl refl (ap ofFound (c .before .before .d .given .1))
 
 returns-2 : tie.Need-returns-2
-returns-2 c = λ z. hands-refusal (c .before .before .d2 .given .0 .0) (0 ∷ []) _ _ _ (c .one2 .ensures) (ap ofFound (c .before .before .d2 .given .1)) z
+returns-2 c =
+    λ z. hands-refusal (c .before .before .d2 .given .0 .0) (0 ∷ []) _ _ _ (c .one2 .ensures) (ap ofFound (c .before .before .d2 .given .1))
+    z
 
 pub of-found-spec : {M : Type 1} → statement M
 of-found-spec =
-    tie.close (tie.spec enum-known-d one-requires enum-known-d-2 one-requires-2 returns returns-2)
+    tie.close (tie.spec
+    (λ c. search needs) (λ c κs. search needs) (λ c. search needs) (λ c κs. search needs) returns returns-2)

@@ -7,59 +7,27 @@ use borrow.Author.Needs.{needs}
 use Rattle.abi.proofs.replies.of_resolution.Statement.{statement}
 use Rattle.abi.proofs.replies.of_resolution.Tie as tie
 
-enum-known-w : tie.Need-enum-known-w
-enum-known-w c = search needs
-
-flag-requires : tie.Need-flag-requires
-flag-requires c κs = search needs
-
-three-requires : tie.Need-three-requires
-three-requires c κs = search needs
-
-enum-known-w-2 : tie.Need-enum-known-w-2
-enum-known-w-2 c = search needs
-
-three-requires-2 : tie.Need-three-requires-2
-three-requires-2 c κs = search needs
-
-enum-known-w-3 : tie.Need-enum-known-w-3
-enum-known-w-3 c = search needs
-
-three-requires-3 : tie.Need-three-requires-3
-three-requires-3 c κs = search needs
-
-enum-known-w-4 : tie.Need-enum-known-w-4
-enum-known-w-4 c = search needs
-
-three-requires-4 : tie.Need-three-requires-4
-three-requires-4 c κs = search needs
-
 returns : tie.Need-returns
-returns c = λ out z. hands _ _ _ _ _ (c .three .ensures ∙ rw (c .before .flag .ensures)) refl refl (ap (λ (x : Resolution). ofResolution x out) (c .before .before .before .w .given .1))
+returns c =
+    λ out z. hands _ _ _ _ _ (c .three .ensures ∙ rw (c .before .flag .ensures)) refl refl
+    (ap (λ (x : Resolution). ofResolution x out) (c .before .before .before .w .given .1))
 
 returns-2 : tie.Need-returns-2
-returns-2 c = λ out z. hands _ _ _ _ _ (c .three2 .ensures) refl refl (ap (λ (x : Resolution). ofResolution x out) (c .before .before .w2 .given .1))
+returns-2 c =
+    λ out z. hands _ _ _ _ _ (c .three2 .ensures) refl refl (ap (λ (x : Resolution). ofResolution x out) (c .before .before .w2 .given .1))
 
 returns-3 : tie.Need-returns-3
-returns-3 c = λ out z. hands _ _ _ _ _ (c .three3 .ensures) refl refl (ap (λ (x : Resolution). ofResolution x out) (c .before .before .w3 .given .1))
+returns-3 c =
+    λ out z. hands _ _ _ _ _ (c .three3 .ensures) refl refl (ap (λ (x : Resolution). ofResolution x out) (c .before .before .w3 .given .1))
 
 returns-4 : tie.Need-returns-4
-returns-4 c = λ out z. hands-refusal (c .before .before .w4 .given .0 .0) (0 ∷ 0 ∷ 0 ∷ []) _ _ _ (c .three4 .ensures) (ap (λ (x : Resolution). ofResolution x out) (c .before .before .w4 .given .1)) z
+returns-4 c =
+    λ out z. hands-refusal (c .before .before .w4 .given .0 .0) (0 ∷ 0 ∷ 0 ∷ []) _ _ _ (c .three4 .ensures)
+    (ap (λ (x : Resolution). ofResolution x out) (c .before .before .w4 .given .1)) z
 
 pub of-resolution-spec : {M : Type 1} → statement M
 of-resolution-spec =
     tie.close
     (tie.spec
-    enum-known-w
-    flag-requires
-    three-requires
-    enum-known-w-2
-    three-requires-2
-    enum-known-w-3
-    three-requires-3
-    enum-known-w-4
-    three-requires-4
-    returns
-    returns-2
-    returns-3
-    returns-4)
+    (λ c. search needs) (λ c κs. search needs) (λ c κs. search needs) (λ c. search needs) (λ c κs. search needs) (λ c. search needs)
+    (λ c κs. search needs) (λ c. search needs) (λ c κs. search needs) returns returns-2 returns-3 returns-4)

@@ -7,43 +7,21 @@ use borrow.Author.Needs.{needs}
 use Rattle.abi.proofs.replies.of_written.Statement.{statement}
 use Rattle.abi.proofs.replies.of_written.Tie as tie
 
-enum-known-w : tie.Need-enum-known-w
-enum-known-w c = search needs
-
-one-requires : tie.Need-one-requires
-one-requires c κs = search needs
-
-enum-known-w-2 : tie.Need-enum-known-w-2
-enum-known-w-2 c = search needs
-
-one-requires-2 : tie.Need-one-requires-2
-one-requires-2 c κs = search needs
-
-enum-known-w-3 : tie.Need-enum-known-w-3
-enum-known-w-3 c = search needs
-
-one-requires-3 : tie.Need-one-requires-3
-one-requires-3 c κs = search needs
-
 returns : tie.Need-returns
 returns c = λ out z. hands _ _ _ _ _ (c .one .ensures) refl refl (ap (λ (x : Written). ofWritten x out) (c .before .before .w .given .1))
 
 returns-2 : tie.Need-returns-2
-returns-2 c = λ out z. hands _ _ _ _ _ (c .one2 .ensures) refl refl (ap (λ (x : Written). ofWritten x out) (c .before .before .w2 .given .1))
+returns-2 c =
+    λ out z. hands _ _ _ _ _ (c .one2 .ensures) refl refl (ap (λ (x : Written). ofWritten x out) (c .before .before .w2 .given .1))
 
 returns-3 : tie.Need-returns-3
-returns-3 c = λ out z. hands-refusal (c .before .before .w3 .given .0 .0) (0 ∷ []) _ _ _ (c .one3 .ensures) (ap (λ (x : Written). ofWritten x out) (c .before .before .w3 .given .1)) z
+returns-3 c =
+    λ out z. hands-refusal (c .before .before .w3 .given .0 .0) (0 ∷ []) _ _ _ (c .one3 .ensures)
+    (ap (λ (x : Written). ofWritten x out) (c .before .before .w3 .given .1)) z
 
 pub of-written-spec : {M : Type 1} → statement M
 of-written-spec =
     tie.close
     (tie.spec
-    enum-known-w
-    one-requires
-    enum-known-w-2
-    one-requires-2
-    enum-known-w-3
-    one-requires-3
-    returns
-    returns-2
-    returns-3)
+    (λ c. search needs) (λ c κs. search needs) (λ c. search needs) (λ c κs. search needs) (λ c. search needs) (λ c κs. search needs) returns
+    returns-2 returns-3)

@@ -17,61 +17,68 @@ Inv-loop folded a b i₀ i = (i ≤ length a) × (order (map (inCase folded) a) 
 abbrev μ-loop : tie.MeasureT-loop
 μ-loop folded a b i₀ i = length a - i
 
-same-start-requires : tie.Need-same-start-requires Inv-loop μ-loop
-same-start-requires c κs = search needs
-
 loop-holds : tie.Need-loop-holds Inv-loop μ-loop
-loop-holds c = (c .same-start .ensures .0, order-skip _ _ _ _ (c .same-start .ensures .0) (c .same-start .ensures .1) (c .same-start .ensures .2))
+loop-holds c =
+    (c .same-start .ensures .0, order-skip _ _ _ _ (c .same-start .ensures .0) (c .same-start .ensures .1) (c .same-start .ensures .2))
 
 returns : tie.Need-returns Inv-loop μ-loop
-returns c = sym (c .before .before .loop .inv .1 ∙ order-longer (inCase (c .before .before .before .before .before .before .args .folded)) (c .before .before .before .before .before .before .args .a .now) (c .before .before .before .before .before .before .args .b .now) _ (c .before .loop-test .taken) (c .if1 .taken))
-
-shared-slice-read-byte-order : tie.Need-shared-slice-read-byte-order Inv-loop μ-loop
-shared-slice-read-byte-order c = omega arith
-
-shared-slice-read-byte-order-2 : tie.Need-shared-slice-read-byte-order-2 Inv-loop μ-loop
-shared-slice-read-byte-order-2 c = omega arith
-
-byte-order-requires : tie.Need-byte-order-requires Inv-loop μ-loop
-byte-order-requires c κs = search needs
+returns c =
+    let at-loop-test = c .before in
+    let at-loop = at-loop-test .before in
+    let args = at-loop .before .before .before .before .args in
+    sym (at-loop .loop .inv .1 ∙ order-longer (inCase (args .folded)) (args .a .now) (args .b .now) _ (at-loop-test .loop-test .taken)
+    (c .if1 .taken))
 
 returns-2 : tie.Need-returns-2 Inv-loop μ-loop
-returns-2 c = sym (c .before .before .before .before .before .before .loop .inv .1 ∙ order-less-at (inCase (c .before .before .before .before .before .before .before .before .before .before .args .folded)) (c .before .before .before .before .before .before .before .before .before .before .args .a .now) (c .before .before .before .before .before .before .before .before .before .before .args .b .now) _ _ (c .before .before .before .before .before .loop-test .taken) (c .before .before .before .before .if1 .left) (c .before .byte-order .ensures) (c .if2 .taken))
+returns-2 c =
+    let at-byte-order = c .before in
+    let at-if1 = at-byte-order .before .before .before in
+    let at-loop-test = at-if1 .before in
+    let at-loop = at-loop-test .before in
+    let args = at-loop .before .before .before .before .args in
+    sym (at-loop .loop .inv .1 ∙ order-less-at (inCase (args .folded)) (args .a .now) (args .b .now) _ _ (at-loop-test .loop-test .taken)
+    (at-if1 .if1 .left) (at-byte-order .byte-order .ensures) (c .if2 .taken))
 
 returns-3 : tie.Need-returns-3 Inv-loop μ-loop
-returns-3 c = sym (c .before .before .before .before .before .before .before .loop .inv .1 ∙ order-greater-at (inCase (c .before .before .before .before .before .before .before .before .before .before .before .args .folded)) (c .before .before .before .before .before .before .before .before .before .before .before .args .a .now) (c .before .before .before .before .before .before .before .before .before .before .before .args .b .now) _ _ (c .before .before .before .before .before .before .loop-test .taken) (c .before .before .before .before .before .if1 .left) (c .before .before .byte-order .ensures) (c .if3 .taken))
-
-add-i : tie.Need-add-i Inv-loop μ-loop
-add-i c = omega arith
-
-loop-less : tie.Need-loop-less Inv-loop μ-loop
-loop-less c = omega arith
+returns-3 c =
+    let at-byte-order = c .before .before in
+    let at-if1 = at-byte-order .before .before .before in
+    let at-loop-test = at-if1 .before in
+    let at-loop = at-loop-test .before in
+    let args = at-loop .before .before .before .before .args in
+    sym (at-loop .loop .inv .1 ∙ order-greater-at (inCase (args .folded)) (args .a .now) (args .b .now) _ _ (at-loop-test .loop-test .taken)
+    (at-if1 .if1 .left) (at-byte-order .byte-order .ensures) (c .if3 .taken))
 
 loop-again : tie.Need-loop-again Inv-loop μ-loop
-loop-again c = (omega arith, c .before .before .before .before .before .before .before .loop .inv .1 ∙ order-next (inCase (c .before .before .before .before .before .before .before .before .before .before .before .args .folded)) (c .before .before .before .before .before .before .before .before .before .before .before .args .a .now) (c .before .before .before .before .before .before .before .before .before .before .before .args .b .now) _ _ (c .before .before .before .before .before .before .loop-test .taken) (c .before .before .before .before .before .if1 .left) (c .before .before .byte-order .ensures) (c .before .if2 .left) (c .if3 .left))
+loop-again c =
+    let at-if2 = c .before in
+    let at-byte-order = at-if2 .before in
+    let at-if1 = at-byte-order .before .before .before in
+    let at-loop-test = at-if1 .before in
+    let at-loop = at-loop-test .before in
+    let at-args = at-loop .before .before .before .before in
+    (omega arith, at-loop .loop .inv .1 ∙ order-next (inCase (at-args .args .folded)) (at-args .args .a .now) (at-args .args .b .now) _ _
+    (at-loop-test .loop-test .taken) (at-if1 .if1 .left) (at-byte-order .byte-order .ensures) (at-if2 .if2 .left) (c .if3 .left))
 
 returns-4 : tie.Need-returns-4 Inv-loop μ-loop
-returns-4 c = sym (c .before .before .loop .inv .1 ∙ order-shorter (inCase (c .before .before .before .before .before .before .args .folded)) (c .before .before .before .before .before .before .args .a .now) (c .before .before .before .before .before .before .args .b .now) _ (c .before .loop-test .left) (c .if4 .taken))
+returns-4 c =
+    let at-loop-test = c .before in
+    let at-loop = at-loop-test .before in
+    let args = at-loop .before .before .before .before .args in
+    sym (at-loop .loop .inv .1 ∙ order-shorter (inCase (args .folded)) (args .a .now) (args .b .now) _ (at-loop-test .loop-test .left)
+    (c .if4 .taken))
 
 returns-5 : tie.Need-returns-5 Inv-loop μ-loop
-returns-5 c = sym (c .before .before .loop .inv .1 ∙ order-same (inCase (c .before .before .before .before .before .before .args .folded)) (c .before .before .before .before .before .before .args .a .now) (c .before .before .before .before .before .before .args .b .now) _ (c .before .loop-test .left) (c .if4 .left))
+returns-5 c =
+    let at-loop-test = c .before in
+    let at-loop = at-loop-test .before in
+    let args = at-loop .before .before .before .before .args in
+    sym (at-loop .loop .inv .1 ∙ order-same (inCase (args .folded)) (args .a .now) (args .b .now) _ (at-loop-test .loop-test .left)
+    (c .if4 .left))
 
 pub compare-by-spec : {M : Type 1} → statement M
 compare-by-spec =
     tie.close
     (tie.spec
-    Inv-loop
-    μ-loop
-    same-start-requires
-    loop-holds
-    returns
-    shared-slice-read-byte-order
-    shared-slice-read-byte-order-2
-    byte-order-requires
-    returns-2
-    returns-3
-    add-i
-    loop-less
-    loop-again
-    returns-4
-    returns-5)
+    Inv-loop μ-loop (λ c κs. search needs) loop-holds returns (λ c. omega arith) (λ c. omega arith) (λ c κs. search needs) returns-2
+    returns-3 (λ c. omega arith) (λ c. omega arith) loop-again returns-4 returns-5)

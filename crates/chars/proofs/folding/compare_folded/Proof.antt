@@ -3,12 +3,10 @@ use borrow.Author.Needs.{needs}
 use Rattle.chars.proofs.folding.compare_folded.Statement.{statement}
 use Rattle.chars.proofs.folding.compare_folded.Tie as tie
 
-compare-by-requires : tie.Need-compare-by-requires
-compare-by-requires c κs = search needs
-
 returns : tie.Need-returns
 unfolding foldedOrder
 returns c = c .compare-by .ensures
 
 pub compare-folded-spec : {M : Type 1} → statement M
-compare-folded-spec = tie.close (tie.spec compare-by-requires returns)
+compare-folded-spec = tie.close (tie.spec
+    (λ c κs. search needs) returns)

@@ -4,9 +4,6 @@ use borrow.Author.Needs.{needs}
 use Rattle.chars.proofs.folding.to_lower.Statement.{statement}
 use Rattle.chars.proofs.folding.to_lower.Tie as tie
 
-add-result : tie.Need-add-result
-add-result c = search needs
-
 returns : tie.Need-returns
 unfolding lower
 returns c = rw (le-leb _ _ (c .before .if1 .taken), le-leb _ _ (c .if2 .taken))
@@ -20,4 +17,5 @@ unfolding lower
 returns-3 c = rw (lt-leb _ _ (c .if1 .left))
 
 pub to-lower-spec : {M : Type 1} → statement M
-to-lower-spec = tie.close (tie.spec add-result returns returns-2 returns-3)
+to-lower-spec = tie.close (tie.spec
+    (λ c. search needs) returns returns-2 returns-3)

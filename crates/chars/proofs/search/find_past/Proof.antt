@@ -17,41 +17,30 @@ abbrev μ-loop : tie.MeasureT-loop
 loop-holds : tie.Need-loop-holds Inv-loop μ-loop
 loop-holds c = (omega arith, ap (afterLast (c .args .b)) (sym (take-length (c .args .s .now))))
 
-sub-j : tie.Need-sub-j Inv-loop μ-loop
-sub-j c = omega arith
-
-shared-slice-read-if1 : tie.Need-shared-slice-read-if1 Inv-loop μ-loop
-shared-slice-read-if1 c = omega arith
-
 returns : tie.Need-returns Inv-loop μ-loop
 returns c =
-    let l = c .before .before .before in
-    sym (l .loop .inv .1 ∙ last-hit _ _ _ (c .before .before .loop-test .taken) (l .loop .inv .0) (c .if1 .taken))
-
-loop-less : tie.Need-loop-less Inv-loop μ-loop
-loop-less c = omega arith
+    let at-loop-test = c .before .before in
+    let at-start = at-loop-test .before in
+    let l = at-start in
+    sym (l .loop .inv .1 ∙ last-hit _ _ _ (at-loop-test .loop-test .taken) (l .loop .inv .0) (c .if1 .taken))
 
 loop-again : tie.Need-loop-again Inv-loop μ-loop
 loop-again c =
-    let l = c .before .before .before in
-    (omega arith, l .loop .inv .1 ∙ last-miss _ _ _ (c .before .before .loop-test .taken) (l .loop .inv .0) (c .if1 .left))
+    let at-loop-test = c .before .before in
+    let at-start = at-loop-test .before in
+    let l = at-start in
+    (omega arith, l .loop .inv .1 ∙ last-miss _ _ _ (at-loop-test .loop-test .taken) (l .loop .inv .0) (c .if1 .left))
 
 returns-2 : tie.Need-returns-2 Inv-loop μ-loop
 unfolding afterLast
 returns-2 c =
-    let z : c .before .loop .i ≡ 0 = omega arith in
-    sym (c .before .loop .inv .1 ∙ ap (λ (n : ℕ). afterLast (c .before .before .args .b) (take n (c .before .before .args .s .now))) z)
+    let at-loop = c .before in
+    let at-args = at-loop .before in
+    let z : at-loop .loop .i ≡ 0 = omega arith in
+    sym (at-loop .loop .inv .1 ∙ ap (λ (n : ℕ). afterLast (at-args .args .b) (take n (at-args .args .s .now))) z)
 
 pub find-past-spec : {M : Type 1} → statement M
 find-past-spec =
     tie.close
     (tie.spec
-    Inv-loop
-    μ-loop
-    loop-holds
-    sub-j
-    shared-slice-read-if1
-    returns
-    loop-less
-    loop-again
-    returns-2)
+    Inv-loop μ-loop loop-holds (λ c. omega arith) (λ c. omega arith) returns (λ c. omega arith) loop-again returns-2)

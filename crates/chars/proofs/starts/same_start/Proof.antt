@@ -15,26 +15,18 @@ Inv-loop folded a b n i₀ i = (i ≤ n) × (n ≤ length a) × (n ≤ length b)
 abbrev μ-loop : tie.MeasureT-loop
 μ-loop folded a b n i₀ i = n - i
 
-smaller-requires : tie.Need-smaller-requires Inv-loop μ-loop
-smaller-requires c κs = search needs
-
 loop-holds : tie.Need-loop-holds Inv-loop μ-loop
 loop-holds c = (omega arith, c .smaller .ensures .1, c .smaller .ensures .2, refl)
 
-sub-loop : tie.Need-sub-loop Inv-loop μ-loop
-sub-loop c = omega arith
-
-agree-requires : tie.Need-agree-requires Inv-loop μ-loop
-agree-requires c κs = (omega arith, omega arith)
-
-add-i : tie.Need-add-i Inv-loop μ-loop
-add-i c = omega arith
-
-loop-less : tie.Need-loop-less Inv-loop μ-loop
-loop-less c = omega arith
-
 loop-again : tie.Need-loop-again Inv-loop μ-loop
-loop-again c = (omega arith, omega arith, omega arith, take-longer (inCase (c .before .before .before .before .before .before .before .args .folded)) (c .before .before .before .before .before .before .before .args .a .now) (c .before .before .before .before .before .before .before .args .b .now) (c .before .before .before .loop .i) 8 (c .before .before .before .loop .inv .3) (same-eight-eq (c .before .before .before .before .before .before .before .args .folded) (c .before .before .before .before .before .before .before .args .a .now) (c .before .before .before .before .before .before .before .args .b .now) (c .before .before .before .loop .i) (sym (c .before .agree .ensures) ∙ c .if1 .taken)))
+loop-again c =
+    let at-agree = c .before in
+    let at-loop = at-agree .before .before in
+    let at-args = at-loop .before .before .before .before in
+    (omega arith, omega arith, omega arith, take-longer (inCase (at-args .args .folded)) (at-args .args .a .now) (at-args .args .b .now)
+    (at-loop .loop .i) 8 (at-loop .loop .inv .3)
+    (same-eight-eq (at-args .args .folded) (at-args .args .a .now) (at-args .args .b .now) (at-loop .loop .i)
+    (sym (at-agree .agree .ensures) ∙ c .if1 .taken)))
 
 returns : tie.Need-returns Inv-loop μ-loop
 returns c = (omega arith, omega arith, c .before .before .before .loop .inv .3)
@@ -46,14 +38,5 @@ pub same-start-spec : {M : Type 1} → statement M
 same-start-spec =
     tie.close
     (tie.spec
-    Inv-loop
-    μ-loop
-    smaller-requires
-    loop-holds
-    sub-loop
-    agree-requires
-    add-i
-    loop-less
-    loop-again
-    returns
-    returns-2)
+    Inv-loop μ-loop (λ c κs. search needs) loop-holds (λ c. omega arith) (λ c κs. (omega arith, omega arith)) (λ c. omega arith)
+    (λ c. omega arith) loop-again returns returns-2)

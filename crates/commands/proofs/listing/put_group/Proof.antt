@@ -4,47 +4,27 @@ use borrow.Author.Needs.{needs}
 use Rattle.commands.proofs.listing.put_group.Statement.{statement}
 use Rattle.commands.proofs.listing.put_group.Tie as tie
 
-makes-part-requires : tie.Need-makes-part-requires
-makes-part-requires c κs = search needs
-
 returns : tie.Need-returns
 returns c = group-none _ _ _ _ (c .before .makes-part .ensures) _ _ (c .if1 .taken)
 
-smaller-requires : tie.Need-smaller-requires
-smaller-requires c κs = search needs
-
-sub-put-part : tie.Need-sub-put-part
-sub-put-part c = search needs
-
-part-put-part-start : tie.Need-part-put-part-start
-part-put-part-start c = search needs
-
-part-put-part-end : tie.Need-part-put-part-end
-part-put-part-end c = search needs
-
-put-part-requires : tie.Need-put-part-requires
-put-part-requires c κs = search needs
-
 add-result : tie.Need-add-result
-add-result c = omega (arith, c .before .before .before .before .before .before .before .before .before .pre .1 .2, c .before .before .put-part .ensures .few)
-
-same-length : tie.Need-same-length
-same-length c = search needs
+add-result c =
+    let at-put-part = c .before .before in
+    let at-pre = at-put-part .before .before .before .before .before .before .before in
+    omega (arith, at-pre .pre .1 .2, at-put-part .put-part .ensures .few)
 
 returns-2 : tie.Need-returns-2
-returns-2 c = group-sent _ _ _ _ (c .before .before .before .before .before .before .makes-part .ensures) _ _ (c .before .before .before .before .before .if1 .left) _ (c .before .before .before .before .smaller .ensures .0) _ _ (c .before .before .put-part .ensures)
+returns-2 c =
+    let at-put-part = c .before .before in
+    let at-smaller = at-put-part .before .before in
+    let at-if1 = at-smaller .before in
+    let makes-part = at-if1 .before .makes-part in
+    group-sent _ _ _ _ (makes-part .ensures) _ _ (at-if1 .if1 .left) _ (at-smaller .smaller .ensures .0) _ _
+    (at-put-part .put-part .ensures)
 
 pub put-group-spec : {M : Type 1} → statement M
 put-group-spec =
     tie.close
     (tie.spec
-    makes-part-requires
-    returns
-    smaller-requires
-    sub-put-part
-    part-put-part-start
-    part-put-part-end
-    put-part-requires
-    add-result
-    same-length
-    returns-2)
+    (λ c κs. search needs) returns (λ c κs. search needs) (λ c. search needs) (λ c. search needs) (λ c. search needs) (λ c κs. search needs)
+    add-result (λ c. search needs) returns-2)

@@ -18,48 +18,53 @@ abbrev μ-loop : tie.MeasureT-loop
 item-count-requires : tie.Need-item-count-requires Inv-loop μ-loop
 item-count-requires c κs = c .before .before .pre
 
-loop-holds : tie.Need-loop-holds Inv-loop μ-loop
-loop-holds c = (refl, listing-begin _ _ _)
-
 own-end-requires : tie.Need-own-end-requires Inv-loop μ-loop
-own-end-requires c κs = (c .before .before .before .before .before .pre .few, c .loop-test .taken)
+own-end-requires c κs =
+    let at-pre = c .before .before .before .before .before in
+    (at-pre .pre .few, c .loop-test .taken)
 
 put-group-requires : tie.Need-put-group-requires Inv-loop μ-loop
 put-group-requires c κs =
-    let shape = c .before .before .before .before .before .before .before .pre in
-    let few = c .before .before .before .before .item-count .ensures .low in
-    let inv = c .before .before .before .loop .inv .1 in
-    let l = c .before .before .loop-test .taken in
-    let end = c .before .own-end .ensures in
-    (shape, (omega (arith, end .low), end .high slotCount (omega (arith, l, few, shape .few)) (omega (arith, few, shape .few)), omega (arith, inv .few, inv .within, few, shape .few)))
+    let at-own-end = c .before in
+    let at-loop-test = at-own-end .before in
+    let at-loop = at-loop-test .before in
+    let at-item-count = at-loop .before in
+    let at-pre = at-item-count .before .before .before in
+    let shape = at-pre .pre in
+    let few = at-item-count .item-count .ensures .low in
+    let inv = at-loop .loop .inv .1 in
+    let l = at-loop-test .loop-test .taken in
+    let end = at-own-end .own-end .ensures in
+    (shape, (omega (arith, end .low), end .high slotCount (omega (arith, l, few, shape .few)) (omega (arith, few, shape .few)), omega
+    (arith, inv .few, inv .within, few, shape .few)))
 
 loop-less : tie.Need-loop-less Inv-loop μ-loop
-loop-less c = omega (arith, c .before .before .before .before .own-end .ensures .low, c .before .before .before .before .before .loop-test .taken)
+loop-less c =
+    let at-own-end = c .before .before .before .before in
+    let at-loop-test = at-own-end .before in
+    omega (arith, at-own-end .own-end .ensures .low, at-loop-test .loop-test .taken)
 
 loop-again : tie.Need-loop-again Inv-loop μ-loop
 loop-again c =
-    let inv = c .before .before .before .before .before .before .loop .inv in
-    (omega (arith, inv .0), listing-more _ _ _ _ _ _ (inv .1) (inv .0) (c .before .before .before .before .before .loop-test .taken) _ (λ _ _. refl) _ (c .before .before .before .before .own-end .ensures) _ _ (c .before .before .put-group .ensures))
-
-same-length : tie.Need-same-length Inv-loop μ-loop
-same-length c = search needs
+    let at-put-group = c .before .before in
+    let at-own-end = at-put-group .before .before in
+    let at-loop-test = at-own-end .before in
+    let at-loop = at-loop-test .before in
+    let inv = at-loop .loop .inv in
+    (omega (arith, inv .0), listing-more _ _ _ _ _ _ (inv .1) (inv .0) (at-loop-test .loop-test .taken) _ (λ _ _. refl) _
+    (at-own-end .own-end .ensures) _ _ (at-put-group .put-group .ensures))
 
 returns : tie.Need-returns Inv-loop μ-loop
 returns c =
-    let count = c .before .before .item-count .ensures in
-    listed-end _ _ _ _ _ _ (c .before .loop .inv .1) (c .loop-test .left) (omega (arith, count .low, c .before .before .before .before .before .pre .few)) count
+    let at-loop = c .before in
+    let at-item-count = at-loop .before in
+    let at-pre = at-item-count .before .before .before in
+    let count = at-item-count .item-count .ensures in
+    listed-end _ _ _ _ _ _ (at-loop .loop .inv .1) (c .loop-test .left) (omega (arith, count .low, at-pre .pre .few)) count
 
 pub put-listing-spec : {M : Type 1} → statement M
 put-listing-spec =
     tie.close
     (tie.spec
-    Inv-loop
-    μ-loop
-    item-count-requires
-    loop-holds
-    own-end-requires
-    put-group-requires
-    loop-less
-    loop-again
-    same-length
-    returns)
+    Inv-loop μ-loop item-count-requires (λ c. (refl, listing-begin _ _ _)) own-end-requires put-group-requires loop-less loop-again
+    (λ c. search needs) returns)

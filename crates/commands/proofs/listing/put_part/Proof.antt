@@ -3,35 +3,24 @@ use borrow.Author.Needs.{needs}
 use Rattle.commands.proofs.listing.put_part.Statement.{statement}
 use Rattle.commands.proofs.listing.put_part.Tie as tie
 
-short-field-requires : tie.Need-short-field-requires
-short-field-requires c κs = search needs
-
-type-of-requires : tie.Need-type-of-requires
-type-of-requires c κs = search needs
-
-content-length-requires : tie.Need-content-length-requires
-content-length-requires c κs = search needs
-
-sub-put-row : tie.Need-sub-put-row
-sub-put-row c = search needs
-
 put-row-requires : tie.Need-put-row-requires
-put-row-requires c κs = (c .before .before .before .short-field .ensures .few, c .before .before .type-of .ensures .few)
-
-same-length : tie.Need-same-length
-same-length c = search needs
+put-row-requires c κs =
+    let at-type-of = c .before .before in
+    let short-field = at-type-of .before .short-field in
+    (short-field .ensures .few, at-type-of .type-of .ensures .few)
 
 returns : tie.Need-returns
-returns c = part-sent _ _ _ (c .before .before .before .before .before .before .before .before .before .pre .1 .0) _ (c .before .before .before .before .before .before .short-field .ensures) _ (c .before .before .before .before .before .type-of .ensures) _ (c .before .before .before .before .content-length .ensures) _ _ _ (c .before .before .put-row .ensures)
+returns c =
+    let at-put-row = c .before .before in
+    let at-content-length = at-put-row .before .before in
+    let at-type-of = at-content-length .before in
+    let at-short-field = at-type-of .before in
+    let at-pre = at-short-field .before .before .before in
+    part-sent _ _ _ (at-pre .pre .1 .0) _ (at-short-field .short-field .ensures) _ (at-type-of .type-of .ensures) _
+    (at-content-length .content-length .ensures) _ _ _ (at-put-row .put-row .ensures)
 
 pub put-part-spec : {M : Type 1} → statement M
 put-part-spec =
     tie.close
     (tie.spec
-    short-field-requires
-    type-of-requires
-    content-length-requires
-    sub-put-row
-    put-row-requires
-    same-length
-    returns)
+    (λ c κs. search needs) (λ c κs. search needs) (λ c κs. search needs) (λ c. search needs) put-row-requires (λ c. search needs) returns)

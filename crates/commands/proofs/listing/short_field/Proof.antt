@@ -3,18 +3,6 @@ use borrow.Author.Needs.{needs}
 use Rattle.commands.proofs.listing.short_field.Statement.{statement}
 use Rattle.commands.proofs.listing.short_field.Tie as tie
 
-field-requires : tie.Need-field-requires
-field-requires c κs = search needs
-
-sub-result : tie.Need-sub-result
-sub-result c = search needs
-
-part-result-start : tie.Need-part-result-start
-part-result-start c = search needs
-
-part-result-end : tie.Need-part-result-end
-part-result-end c = search needs
-
 returns : tie.Need-returns
 returns c = field-long _ _ _ _ _ (c .before .before .field .ensures .2) (c .before .if1 .taken)
 
@@ -24,4 +12,5 @@ returns-2 c = field-short _ _ _ _ _ (c .before .field .ensures .2) (c .if1 .left
 pub short-field-spec : {M : Type 1} → statement M
 short-field-spec =
     tie.close
-    (tie.spec field-requires sub-result part-result-start part-result-end returns returns-2)
+    (tie.spec
+    (λ c κs. search needs) (λ c. search needs) (λ c. search needs) (λ c. search needs) returns returns-2)

@@ -3,39 +3,39 @@ use borrow.Author.Needs.{needs}
 use Rattle.contract.proofs.entries.put_row.Statement.{statement}
 use Rattle.contract.proofs.entries.put_row.Tie as tie
 
-set-of-requires : tie.Need-set-of-requires
-set-of-requires c κs = search needs
-
-bound-requires : tie.Need-bound-requires
-bound-requires c κs = search needs
-
-row-refusal-requires : tie.Need-row-refusal-requires
-row-refusal-requires c κs = search needs
-
-same-length : tie.Need-same-length
-same-length c = search needs
-
 returns : tie.Need-returns
-returns c = entered-refused _ (c .before .before .before .before .before .before .before .before .before .before .before .args .limit) (c .before .before .before .before .before .before .before .before .before .before .before .args .t) (c .before .before .before .before .before .before .before .before .before .before .before .args .f0 .now) (c .before .before .before .before .before .before .before .before .before .before .before .args .f1 .now) (c .before .before .before .before .before .before .before .before .before .before .before .args .f2 .now) (c .before .before .before .before .before .before .before .before .before .before .before .args .f3 .now) _ (c .before .row-refusal .ensures) (c .if1 .taken)
+returns c =
+    let at-row-refusal = c .before in
+    let args = at-row-refusal .before .before .before .before .before .before .before .before .before .before .args in
+    entered-refused _ (args .limit) (args .t) (args .f0 .now) (args .f1 .now) (args .f2 .now) (args .f3 .now) _
+    (at-row-refusal .row-refusal .ensures) (c .if1 .taken)
 
 insert-requires : tie.Need-insert-requires
-insert-requires c κs = (c .before .before .before .before .before .before .before .before .before .before .before .before .pre .0, (entered-room _ (c .before .before .before .before .before .before .before .before .before .before .before .before .args .limit) (c .before .before .before .before .before .before .before .before .before .before .before .before .args .t) (c .before .before .before .before .before .before .before .before .before .before .before .before .args .f0 .now) (c .before .before .before .before .before .before .before .before .before .before .before .before .args .f1 .now) (c .before .before .before .before .before .before .before .before .before .before .before .before .args .f2 .now) (c .before .before .before .before .before .before .before .before .before .before .before .before .args .f3 .now) _ (c .before .before .row-refusal .ensures) (c .before .if1 .left) _ _ (c .before .before .before .before .before .before .set-of .ensures) (c .before .before .before .before .bound .ensures), c .before .before .before .before .before .before .before .before .before .before .before .before .pre .1))
-
-same-length-2 : tie.Need-same-length-2
-same-length-2 c = search needs
+insert-requires c κs =
+    let at-if1 = c .before in
+    let at-row-refusal = at-if1 .before in
+    let at-bound = at-row-refusal .before .before in
+    let at-set-of = at-bound .before .before in
+    let at-pre = at-set-of .before .before .before .before .before .before in
+    (at-pre .pre .0, (entered-room _ (at-pre .args .limit) (at-pre .args .t) (at-pre .args .f0 .now) (at-pre .args .f1 .now)
+    (at-pre .args .f2 .now) (at-pre .args .f3 .now) _ (at-row-refusal .row-refusal .ensures) (at-if1 .if1 .left) _ _
+    (at-set-of .set-of .ensures) (at-bound .bound .ensures), at-pre .pre .1))
 
 returns-2 : tie.Need-returns-2
-returns-2 c = entered-made _ (c .before .before .before .before .before .before .before .before .before .before .before .before .before .before .before .args .limit) (c .before .before .before .before .before .before .before .before .before .before .before .before .before .before .before .args .t) (c .before .before .before .before .before .before .before .before .before .before .before .before .before .before .before .args .f0 .now) (c .before .before .before .before .before .before .before .before .before .before .before .before .before .before .before .args .f1 .now) (c .before .before .before .before .before .before .before .before .before .before .before .before .before .before .before .args .f2 .now) (c .before .before .before .before .before .before .before .before .before .before .before .before .before .before .before .args .f3 .now) _ (c .before .before .before .before .before .row-refusal .ensures) (c .before .before .before .before .if1 .left) _ _ (c .before .before .before .before .before .before .before .before .before .set-of .ensures) (c .before .before .before .before .before .before .before .bound .ensures) _ (c .before .before .insert .ensures)
+returns-2 c =
+    let at-insert = c .before .before in
+    let at-if1 = at-insert .before .before in
+    let at-row-refusal = at-if1 .before in
+    let at-bound = at-row-refusal .before .before in
+    let at-set-of = at-bound .before .before in
+    let args = at-set-of .before .before .before .before .before .before .args in
+    entered-made _ (args .limit) (args .t) (args .f0 .now) (args .f1 .now) (args .f2 .now) (args .f3 .now) _
+    (at-row-refusal .row-refusal .ensures) (at-if1 .if1 .left) _ _ (at-set-of .set-of .ensures) (at-bound .bound .ensures) _
+    (at-insert .insert .ensures)
 
 pub put-row-spec : {M : Type 1} → statement M
 put-row-spec =
     tie.close
     (tie.spec
-    set-of-requires
-    bound-requires
-    row-refusal-requires
-    same-length
-    returns
-    insert-requires
-    same-length-2
+    (λ c κs. search needs) (λ c κs. search needs) (λ c κs. search needs) (λ c. search needs) returns insert-requires (λ c. search needs)
     returns-2)

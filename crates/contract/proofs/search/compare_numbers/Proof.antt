@@ -16,4 +16,5 @@ unfolding order
 returns-3 c = rw (le-ltb _ _ (c .before .if1 .left), le-ltb _ _ (c .if2 .left))
 
 pub compare-numbers-spec : {M : Type 1} → statement M
-compare-numbers-spec = tie.close (tie.spec returns returns-2 returns-3)
+compare-numbers-spec = tie.close (tie.spec
+    returns returns-2 returns-3)

@@ -5,15 +5,9 @@ use borrow.Author.Needs.{needs}
 use Rattle.contract.proofs.search.compare_second.Statement.{statement}
 use Rattle.contract.proofs.search.compare_second.Tie as tie
 
-compare-numbers-requires : tie.Need-compare-numbers-requires
-compare-numbers-requires c κs = search needs
-
 returns : tie.Need-returns
 unfolding second
 returns c = rw (c .before .if1 .taken) (c .compare-numbers .ensures)
-
-compare-requires : tie.Need-compare-requires
-compare-requires c κs = search needs
 
 returns-2 : tie.Need-returns-2
 unfolding second
@@ -25,4 +19,5 @@ returns-3 c = rw (ne-eqb _ _ (c .before .if1 .left), ne-eqb _ _ (c .if2 .left))
 
 pub compare-second-spec : {M : Type 1} → statement M
 compare-second-spec =
-    tie.close (tie.spec compare-numbers-requires returns compare-requires returns-2 returns-3)
+    tie.close (tie.spec
+    (λ c κs. search needs) returns (λ c κs. search needs) returns-2 returns-3)

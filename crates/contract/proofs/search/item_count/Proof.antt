@@ -4,11 +4,9 @@ use borrow.Author.Needs.{needs}
 use Rattle.contract.proofs.search.item_count.Statement.{statement}
 use Rattle.contract.proofs.search.item_count.Tie as tie
 
-set-start-requires : tie.Need-set-start-requires
-set-start-requires c κs = search needs
-
 returns : tie.Need-returns
 returns c = record { low = c .set-start .ensures .within; is = λ T h. item-count _ T h [] _ (c .set-start .ensures) }
 
 pub item-count-spec : {M : Type 1} → statement M
-item-count-spec = tie.close (tie.spec set-start-requires returns)
+item-count-spec = tie.close (tie.spec
+    (λ c κs. search needs) returns)

@@ -20,4 +20,5 @@ unfolding setOf
 returns-4 c = rw (le-ltb _ _ (c .before .before .if1 .left), ne-eqb _ _ (c .before .if2 .left), ne-eqb _ _ (c .if3 .left))
 
 pub set-of-spec : {M : Type 1} → statement M
-set-of-spec = tie.close (tie.spec returns returns-2 returns-3 returns-4)
+set-of-spec = tie.close (tie.spec
+    returns returns-2 returns-3 returns-4)

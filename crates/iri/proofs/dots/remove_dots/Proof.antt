@@ -16,136 +16,178 @@ Inv-loop s out₀ i₀ o₀ out i o = (i ≤ length s) × (o ≤ i) × (length o
 abbrev μ-loop : tie.MeasureT-loop
 μ-loop s out₀ i₀ o₀ out i o = length s - i
 
-loop-holds : tie.Need-loop-holds Inv-loop μ-loop
-loop-holds c = (omega arith, omega arith, refl, whole-all _)
-
-sub-rule : tie.Need-sub-rule Inv-loop μ-loop
-sub-rule c = omega arith
-
-part-rule-start : tie.Need-part-rule-start Inv-loop μ-loop
-part-rule-start c = search needs
-
-part-rule-end : tie.Need-part-rule-end Inv-loop μ-loop
-part-rule-end c = search needs
-
-rule-requires : tie.Need-rule-requires Inv-loop μ-loop
-rule-requires c κs = search needs
-
-enum-known-m : tie.Need-enum-known-m Inv-loop μ-loop
-enum-known-m c = search needs
-
 add-i : tie.Need-add-i Inv-loop μ-loop
-add-i c = let f = fits-skip (c .before .before .before .before .before .before .before .before .before .args .s .now) (c .before .before .before .before .before .before .loop .out) (c .before .before .before .before .before .before .loop .i) (c .before .before .before .before .before .before .loop .o) (c .before .before .before .before .before .loop-test .taken) _ (c .before .before .before .rule .ensures) _ (c .before .m .given .1) in omega arith
+add-i c =
+    let at-m = c .before in
+    let at-rule = at-m .before .before in
+    let at-loop-test = at-rule .before .before in
+    let at-loop = at-loop-test .before in
+    let at-args = at-loop .before .before .before in
+    let f = fits-skip (at-args .args .s .now) (at-loop .loop .out) (at-loop .loop .i) (at-loop .loop .o) (at-loop-test .loop-test .taken) _
+    (at-rule .rule .ensures) _ (at-m .m .given .1) in
+    omega arith
 
 loop-less : tie.Need-loop-less Inv-loop μ-loop
-loop-less c = let f = fits-skip (c .before .before .before .before .before .before .before .before .before .args .s .now) (c .before .before .before .before .before .before .loop .out) (c .before .before .before .before .before .before .loop .i) (c .before .before .before .before .before .before .loop .o) (c .before .before .before .before .before .loop-test .taken) _ (c .before .before .before .rule .ensures) _ (c .before .m .given .1) in omega arith
+loop-less c =
+    let at-m = c .before in
+    let at-rule = at-m .before .before in
+    let at-loop-test = at-rule .before .before in
+    let at-loop = at-loop-test .before in
+    let at-args = at-loop .before .before .before in
+    let f = fits-skip (at-args .args .s .now) (at-loop .loop .out) (at-loop .loop .i) (at-loop .loop .o) (at-loop-test .loop-test .taken) _
+    (at-rule .rule .ensures) _ (at-m .m .given .1) in
+    omega arith
 
 loop-again : tie.Need-loop-again Inv-loop μ-loop
-loop-again c = let f = fits-skip (c .before .before .before .before .before .before .before .before .before .args .s .now) (c .before .before .before .before .before .before .loop .out) (c .before .before .before .before .before .before .loop .i) (c .before .before .before .before .before .before .loop .o) (c .before .before .before .before .before .loop-test .taken) _ (c .before .before .before .rule .ensures) _ (c .before .m .given .1) in (omega arith, omega arith, c .before .before .before .before .before .before .loop .inv .2, c .before .before .before .before .before .before .loop .inv .3 ∙ after-skip (c .before .before .before .before .before .before .before .before .before .args .s .now) (c .before .before .before .before .before .before .loop .out) (c .before .before .before .before .before .before .loop .i) (c .before .before .before .before .before .before .loop .o) (c .before .before .before .before .before .loop-test .taken) _ (c .before .before .before .rule .ensures) _ (c .before .m .given .1))
-
-enum-told : tie.Need-enum-told Inv-loop μ-loop
-enum-told c = search needs
-
-slice-write-out : tie.Need-slice-write-out Inv-loop μ-loop
-slice-write-out c = omega arith
-
-add-result : tie.Need-add-result Inv-loop μ-loop
-add-result c = omega arith
-
-same-length : tie.Need-same-length Inv-loop μ-loop
-same-length c = simp length-set (omega arith)
+loop-again c =
+    let at-m = c .before in
+    let at-rule = at-m .before .before in
+    let at-loop-test = at-rule .before .before in
+    let at-loop = at-loop-test .before in
+    let at-args = at-loop .before .before .before in
+    let f = fits-skip (at-args .args .s .now) (at-loop .loop .out) (at-loop .loop .i) (at-loop .loop .o) (at-loop-test .loop-test .taken) _
+    (at-rule .rule .ensures) _ (at-m .m .given .1) in
+    (omega arith, omega arith, at-loop .loop .inv .2, at-loop .loop .inv .3 ∙ after-skip (at-args .args .s .now) (at-loop .loop .out)
+    (at-loop .loop .i) (at-loop .loop .o) (at-loop-test .loop-test .taken) _ (at-rule .rule .ensures) _ (at-m .m .given .1))
 
 returns : tie.Need-returns Inv-loop μ-loop
-returns c = root-done _ _ _ (c .before .before .before .before .before .loop .inv .3 ∙ after-root (c .before .before .before .before .before .before .before .before .args .s .now) (c .before .before .before .before .before .loop .out) (c .before .before .before .before .before .loop .i) (c .before .before .before .before .before .loop .o) (c .before .before .before .before .loop-test .taken) _ (c .before .before .rule .ensures) (c .enum-told .given .1)) (omega arith) (omega arith)
-
-enum-known-m-2 : tie.Need-enum-known-m-2 Inv-loop μ-loop
-enum-known-m-2 c = search needs
-
-slice-reshare-prefix-chopped : tie.Need-slice-reshare-prefix-chopped Inv-loop μ-loop
-slice-reshare-prefix-chopped c = omega arith
-
-slice-aggregate-chopped : tie.Need-slice-aggregate-chopped Inv-loop μ-loop
-slice-aggregate-chopped c = sym (length-take-le _ _ (omega arith))
-
-chopped-requires : tie.Need-chopped-requires Inv-loop μ-loop
-chopped-requires c κs = search needs
+returns c =
+    let at-rule = c .before .before in
+    let at-loop-test = at-rule .before .before in
+    let at-loop = at-loop-test .before in
+    let at-args = at-loop .before .before .before in
+    root-done _ _ _ (at-loop .loop .inv .3 ∙ after-root (at-args .args .s .now) (at-loop .loop .out) (at-loop .loop .i) (at-loop .loop .o)
+    (at-loop-test .loop-test .taken) _ (at-rule .rule .ensures) (c .enum-told .given .1)) (omega arith) (omega arith)
 
 add-i-2 : tie.Need-add-i-2 Inv-loop μ-loop
-add-i-2 c = let f = fits-up (c .before .before .before .before .before .before .before .before .before .before .before .args .s .now) (c .before .before .before .before .before .before .before .before .loop .out) (c .before .before .before .before .before .before .before .before .loop .i) (c .before .before .before .before .before .before .before .before .loop .o) (c .before .before .before .before .before .before .before .loop-test .taken) _ (c .before .before .before .before .before .rule .ensures) _ (c .before .before .before .m2 .given .1) in omega arith
+add-i-2 c =
+    let at-m2 = c .before .before .before in
+    let at-rule = at-m2 .before .before in
+    let at-loop-test = at-rule .before .before in
+    let at-loop = at-loop-test .before in
+    let at-args = at-loop .before .before .before in
+    let f = fits-up (at-args .args .s .now) (at-loop .loop .out) (at-loop .loop .i) (at-loop .loop .o) (at-loop-test .loop-test .taken) _
+    (at-rule .rule .ensures) _ (at-m2 .m2 .given .1) in
+    omega arith
 
 loop-less-2 : tie.Need-loop-less-2 Inv-loop μ-loop
-loop-less-2 c = let f = fits-up (c .before .before .before .before .before .before .before .before .before .before .before .args .s .now) (c .before .before .before .before .before .before .before .before .loop .out) (c .before .before .before .before .before .before .before .before .loop .i) (c .before .before .before .before .before .before .before .before .loop .o) (c .before .before .before .before .before .before .before .loop-test .taken) _ (c .before .before .before .before .before .rule .ensures) _ (c .before .before .before .m2 .given .1) in omega arith
+loop-less-2 c =
+    let at-m2 = c .before .before .before in
+    let at-rule = at-m2 .before .before in
+    let at-loop-test = at-rule .before .before in
+    let at-loop = at-loop-test .before in
+    let at-args = at-loop .before .before .before in
+    let f = fits-up (at-args .args .s .now) (at-loop .loop .out) (at-loop .loop .i) (at-loop .loop .o) (at-loop-test .loop-test .taken) _
+    (at-rule .rule .ensures) _ (at-m2 .m2 .given .1) in
+    omega arith
 
 loop-again-2 : tie.Need-loop-again-2 Inv-loop μ-loop
-loop-again-2 c = let f = fits-up (c .before .before .before .before .before .before .before .before .before .before .before .args .s .now) (c .before .before .before .before .before .before .before .before .loop .out) (c .before .before .before .before .before .before .before .before .loop .i) (c .before .before .before .before .before .before .before .before .loop .o) (c .before .before .before .before .before .before .before .loop-test .taken) _ (c .before .before .before .before .before .rule .ensures) _ (c .before .before .before .m2 .given .1) in let q : c .chopped .result ≤ c .before .before .before .before .before .before .before .before .loop .o = chop-le (c .before .before .before .before .before .before .before .before .loop .out) _ _ (omega arith) (c .chopped .ensures) in (omega arith, omega arith, c .before .before .before .before .before .before .before .before .loop .inv .2, c .before .before .before .before .before .before .before .before .loop .inv .3 ∙ after-up (c .before .before .before .before .before .before .before .before .before .before .before .args .s .now) (c .before .before .before .before .before .before .before .before .loop .out) (c .before .before .before .before .before .before .before .before .loop .i) (c .before .before .before .before .before .before .before .before .loop .o) (c .before .before .before .before .before .before .before .loop-test .taken) _ (c .before .before .before .before .before .rule .ensures) _ _ (c .before .before .before .m2 .given .1) (c .chopped .ensures) q)
-
-enum-told-2 : tie.Need-enum-told-2 Inv-loop μ-loop
-enum-told-2 c = search needs
-
-slice-reshare-prefix-chopped-2 : tie.Need-slice-reshare-prefix-chopped-2 Inv-loop μ-loop
-slice-reshare-prefix-chopped-2 c = omega arith
-
-slice-aggregate-chopped-2 : tie.Need-slice-aggregate-chopped-2 Inv-loop μ-loop
-slice-aggregate-chopped-2 c = sym (length-take-le _ _ (omega arith))
-
-chopped-requires-2 : tie.Need-chopped-requires-2 Inv-loop μ-loop
-chopped-requires-2 c κs = search needs
+loop-again-2 c =
+    let at-m2 = c .before .before .before in
+    let at-rule = at-m2 .before .before in
+    let at-loop-test = at-rule .before .before in
+    let at-loop = at-loop-test .before in
+    let at-args = at-loop .before .before .before in
+    let f = fits-up (at-args .args .s .now) (at-loop .loop .out) (at-loop .loop .i) (at-loop .loop .o) (at-loop-test .loop-test .taken) _
+    (at-rule .rule .ensures) _ (at-m2 .m2 .given .1) in
+    let q : c .chopped .result ≤ at-loop .loop .o = chop-le (at-loop .loop .out) _ _ (omega arith) (c .chopped .ensures) in
+    (omega arith, omega arith, at-loop .loop .inv .2, at-loop .loop .inv .3 ∙ after-up (at-args .args .s .now) (at-loop .loop .out)
+    (at-loop .loop .i) (at-loop .loop .o) (at-loop-test .loop-test .taken) _ (at-rule .rule .ensures) _ _ (at-m2 .m2 .given .1)
+    (c .chopped .ensures) q)
 
 slice-write-out-2 : tie.Need-slice-write-out-2 Inv-loop μ-loop
-slice-write-out-2 c = let q : c .chopped2 .result ≤ c .before .before .before .before .before .before .before .loop .o = chop-le (c .before .before .before .before .before .before .before .loop .out) _ _ (omega arith) (c .chopped2 .ensures) in omega arith
+slice-write-out-2 c =
+    let at-loop = c .before .before .before .before .before .before .before in
+    let q : c .chopped2 .result ≤ at-loop .loop .o = chop-le (at-loop .loop .out) _ _ (omega arith) (c .chopped2 .ensures) in
+    omega arith
 
 add-result-2 : tie.Need-add-result-2 Inv-loop μ-loop
-add-result-2 c = let q : c .chopped2 .result ≤ c .before .before .before .before .before .before .before .loop .o = chop-le (c .before .before .before .before .before .before .before .loop .out) _ _ (omega arith) (c .chopped2 .ensures) in omega arith
-
-same-length-2 : tie.Need-same-length-2 Inv-loop μ-loop
-same-length-2 c = simp length-set (omega arith)
+add-result-2 c =
+    let at-loop = c .before .before .before .before .before .before .before in
+    let q : c .chopped2 .result ≤ at-loop .loop .o = chop-le (at-loop .loop .out) _ _ (omega arith) (c .chopped2 .ensures) in
+    omega arith
 
 returns-2 : tie.Need-returns-2 Inv-loop μ-loop
-returns-2 c = let q : c .chopped2 .result ≤ c .before .before .before .before .before .before .before .loop .o = chop-le (c .before .before .before .before .before .before .before .loop .out) _ _ (omega arith) (c .chopped2 .ensures) in root-done _ _ _ (c .before .before .before .before .before .before .before .loop .inv .3 ∙ after-up-root (c .before .before .before .before .before .before .before .before .before .before .args .s .now) (c .before .before .before .before .before .before .before .loop .out) (c .before .before .before .before .before .before .before .loop .i) (c .before .before .before .before .before .before .before .loop .o) (c .before .before .before .before .before .before .loop-test .taken) _ (c .before .before .before .before .rule .ensures) _ (c .before .before .enum-told2 .given .1) (c .chopped2 .ensures) q) (omega arith) (omega arith)
-
-enum-told-3 : tie.Need-enum-told-3 Inv-loop μ-loop
-enum-told-3 c = search needs
-
-same-length-3 : tie.Need-same-length-3 Inv-loop μ-loop
-same-length-3 c = omega arith
+returns-2 c =
+    let at-enum-told2 = c .before .before in
+    let at-rule = at-enum-told2 .before .before in
+    let at-loop-test = at-rule .before .before in
+    let at-loop = at-loop-test .before in
+    let at-args = at-loop .before .before .before in
+    let q : c .chopped2 .result ≤ at-loop .loop .o = chop-le (at-loop .loop .out) _ _ (omega arith) (c .chopped2 .ensures) in
+    root-done _ _ _ (at-loop .loop .inv .3 ∙ after-up-root (at-args .args .s .now) (at-loop .loop .out) (at-loop .loop .i)
+    (at-loop .loop .o) (at-loop-test .loop-test .taken) _ (at-rule .rule .ensures) _ (at-enum-told2 .enum-told2 .given .1)
+    (c .chopped2 .ensures) q) (omega arith) (omega arith)
 
 returns-3 : tie.Need-returns-3 Inv-loop μ-loop
-returns-3 c = done _ _ _ (c .before .before .before .before .before .loop .inv .3 ∙ after-finish (c .before .before .before .before .before .before .before .before .args .s .now) (c .before .before .before .before .before .loop .out) (c .before .before .before .before .before .loop .i) (c .before .before .before .before .before .loop .o) (c .before .before .before .before .loop-test .taken) _ (c .before .before .rule .ensures) (c .enum-told3 .given .1)) (omega arith)
-
-enum-known-m-3 : tie.Need-enum-known-m-3 Inv-loop μ-loop
-enum-known-m-3 c = search needs
+returns-3 c =
+    let at-rule = c .before .before in
+    let at-loop-test = at-rule .before .before in
+    let at-loop = at-loop-test .before in
+    let at-args = at-loop .before .before .before in
+    done _ _ _ (at-loop .loop .inv .3 ∙ after-finish (at-args .args .s .now) (at-loop .loop .out) (at-loop .loop .i) (at-loop .loop .o)
+    (at-loop-test .loop-test .taken) _ (at-rule .rule .ensures) (c .enum-told3 .given .1)) (omega arith)
 
 add-e : tie.Need-add-e Inv-loop μ-loop
-add-e c = let f = fits-copy (c .before .before .before .before .before .before .before .before .before .args .s .now) (c .before .before .before .before .before .before .loop .out) (c .before .before .before .before .before .before .loop .i) (c .before .before .before .before .before .before .loop .o) (c .before .before .before .before .before .loop-test .taken) _ (c .before .before .before .rule .ensures) _ (c .before .m3 .given .1) in omega arith
-
-sub-emit : tie.Need-sub-emit Inv-loop μ-loop
-sub-emit c = omega arith
-
-part-emit-start : tie.Need-part-emit-start Inv-loop μ-loop
-part-emit-start c = search needs
+add-e c =
+    let at-m3 = c .before in
+    let at-rule = at-m3 .before .before in
+    let at-loop-test = at-rule .before .before in
+    let at-loop = at-loop-test .before in
+    let at-args = at-loop .before .before .before in
+    let f = fits-copy (at-args .args .s .now) (at-loop .loop .out) (at-loop .loop .i) (at-loop .loop .o) (at-loop-test .loop-test .taken) _
+    (at-rule .rule .ensures) _ (at-m3 .m3 .given .1) in
+    omega arith
 
 part-emit-end : tie.Need-part-emit-end Inv-loop μ-loop
-part-emit-end c = let f = fits-copy (c .before .before .before .before .before .before .before .before .before .before .args .s .now) (c .before .before .before .before .before .before .before .loop .out) (c .before .before .before .before .before .before .before .loop .i) (c .before .before .before .before .before .before .before .loop .o) (c .before .before .before .before .before .before .loop-test .taken) _ (c .before .before .before .before .rule .ensures) _ (c .before .before .m3 .given .1) in search needs
+part-emit-end c =
+    let at-m3 = c .before .before in
+    let at-rule = at-m3 .before .before in
+    let at-loop-test = at-rule .before .before in
+    let at-loop = at-loop-test .before in
+    let at-args = at-loop .before .before .before in
+    let f = fits-copy (at-args .args .s .now) (at-loop .loop .out) (at-loop .loop .i) (at-loop .loop .o) (at-loop-test .loop-test .taken) _
+    (at-rule .rule .ensures) _ (at-m3 .m3 .given .1) in
+    search needs
 
 emit-requires : tie.Need-emit-requires Inv-loop μ-loop
-emit-requires c κs = (omega arith, (let l = length-part-le (c .before .before .before .before .before .before .before .before .loop .i + c .before .before .before .m3 .given .0 .0 - c .before .before .before .before .before .before .before .before .loop .i) (c .before .before .before .before .before .before .before .before .loop .i) (c .before .before .before .before .before .before .before .before .before .before .before .args .s .now) in omega arith))
+emit-requires c κs =
+    let at-m3 = c .before .before .before in
+    let at-loop = at-m3 .before .before .before .before .before in
+    let at-args = at-loop .before .before .before in
+    (omega arith, (let l = length-part-le (at-loop .loop .i + at-m3 .m3 .given .0 .0 - at-loop .loop .i) (at-loop .loop .i)
+    (at-args .args .s .now) in omega arith))
 
 loop-less-3 : tie.Need-loop-less-3 Inv-loop μ-loop
-loop-less-3 c = let f = fits-copy (c .before .before .before .before .before .before .before .before .before .before .before .before .before .before .args .s .now) (c .before .before .before .before .before .before .before .before .before .before .before .loop .out) (c .before .before .before .before .before .before .before .before .before .before .before .loop .i) (c .before .before .before .before .before .before .before .before .before .before .before .loop .o) (c .before .before .before .before .before .before .before .before .before .before .loop-test .taken) _ (c .before .before .before .before .before .before .before .before .rule .ensures) _ (c .before .before .before .before .before .before .m3 .given .1) in omega arith
+loop-less-3 c =
+    let at-m3 = c .before .before .before .before .before .before in
+    let at-rule = at-m3 .before .before in
+    let at-loop-test = at-rule .before .before in
+    let at-loop = at-loop-test .before in
+    let at-args = at-loop .before .before .before in
+    let f = fits-copy (at-args .args .s .now) (at-loop .loop .out) (at-loop .loop .i) (at-loop .loop .o) (at-loop-test .loop-test .taken) _
+    (at-rule .rule .ensures) _ (at-m3 .m3 .given .1) in
+    omega arith
 
 loop-again-3 : tie.Need-loop-again-3 Inv-loop μ-loop
 loop-again-3 c =
-    let i = c .before .before .before .before .before .before .before .before .before .before .before .loop .i in
-    let n = c .before .before .before .before .before .before .m3 .given .0 .0 in
-    let s = c .before .before .before .before .before .before .before .before .before .before .before .before .before .before .args .s .now in
-    let f = fits-copy (c .before .before .before .before .before .before .before .before .before .before .before .before .before .before .args .s .now) (c .before .before .before .before .before .before .before .before .before .before .before .loop .out) (c .before .before .before .before .before .before .before .before .before .before .before .loop .i) (c .before .before .before .before .before .before .before .before .before .before .before .loop .o) (c .before .before .before .before .before .before .before .before .before .before .loop-test .taken) _ (c .before .before .before .before .before .before .before .before .rule .ensures) _ (c .before .before .before .before .before .before .m3 .given .1) in
-    let w = c .before .before .emit in
+    let at-emit = c .before .before in
+    let at-m3 = at-emit .before .before .before .before in
+    let at-rule = at-m3 .before .before in
+    let at-loop-test = at-rule .before .before in
+    let at-loop = at-loop-test .before in
+    let at-args = at-loop .before .before .before in
+    let i = at-loop .loop .i in
+    let n = at-m3 .m3 .given .0 .0 in
+    let s = at-args .args .s .now in
+    let f = fits-copy (at-args .args .s .now) (at-loop .loop .out) (at-loop .loop .i) (at-loop .loop .o) (at-loop-test .loop-test .taken) _
+    (at-rule .rule .ensures) _ (at-m3 .m3 .given .1) in
+    let w = at-emit .emit in
     let k : w .result ≤ i + n = omega (arith, w .ensures .next-is, length-take-few (i + n - i) (drop i s)) in
-    let l : c .before .before .before .before .before .before .before .before .before .before .before .loop .o + n ≤ length (c .before .before .before .before .before .before .before .before .before .before .before .loop .out) = omega arith in
-    (omega arith, k, w .kept .0 ∙ c .before .before .before .before .before .before .before .before .before .before .before .loop .inv .2, c .before .before .before .before .before .before .before .before .before .before .before .loop .inv .3 ∙ after-copy (c .before .before .before .before .before .before .before .before .before .before .before .before .before .before .args .s .now) (c .before .before .before .before .before .before .before .before .before .before .before .loop .out) (c .before .before .before .before .before .before .before .before .before .before .before .loop .i) (c .before .before .before .before .before .before .before .before .before .before .before .loop .o) (c .before .before .before .before .before .before .before .before .before .before .loop-test .taken) _ (c .before .before .before .before .before .before .before .before .rule .ensures) n _ _ (c .before .before .before .before .before .before .m3 .given .1) l (w .ensures))
-
-same-length-4 : tie.Need-same-length-4 Inv-loop μ-loop
-same-length-4 c = omega arith
+    let l : at-loop .loop .o + n ≤ length (at-loop .loop .out) = omega arith in
+    (omega arith, k, w .kept .0 ∙ at-loop .loop .inv .2, at-loop .loop .inv .3 ∙ after-copy (at-args .args .s .now) (at-loop .loop .out)
+    (at-loop .loop .i) (at-loop .loop .o) (at-loop-test .loop-test .taken) _ (at-rule .rule .ensures) n _ _ (at-m3 .m3 .given .1) l
+    (w .ensures))
 
 returns-4 : tie.Need-returns-4 Inv-loop μ-loop
 returns-4 c = done _ _ _ (c .before .loop .inv .3 ∙ whole-none _ _ _ (c .loop-test .left)) (omega arith)
@@ -154,47 +196,10 @@ pub remove-dots-spec : {M : Type 1} → statement M
 remove-dots-spec =
     tie.close
     (tie.spec
-    Inv-loop
-    μ-loop
-    loop-holds
-    sub-rule
-    part-rule-start
-    part-rule-end
-    rule-requires
-    enum-known-m
-    add-i
-    loop-less
-    loop-again
-    enum-told
-    slice-write-out
-    add-result
-    same-length
-    returns
-    enum-known-m-2
-    slice-reshare-prefix-chopped
-    slice-aggregate-chopped
-    chopped-requires
-    add-i-2
-    loop-less-2
-    loop-again-2
-    enum-told-2
-    slice-reshare-prefix-chopped-2
-    slice-aggregate-chopped-2
-    chopped-requires-2
-    slice-write-out-2
-    add-result-2
-    same-length-2
-    returns-2
-    enum-told-3
-    same-length-3
-    returns-3
-    enum-known-m-3
-    add-e
-    sub-emit
-    part-emit-start
-    part-emit-end
-    emit-requires
-    loop-less-3
-    loop-again-3
-    same-length-4
-    returns-4)
+    Inv-loop μ-loop (λ c. (omega arith, omega arith, refl, whole-all _)) (λ c. omega arith) (λ c. search needs) (λ c. search needs)
+    (λ c κs. search needs) (λ c. search needs) add-i loop-less loop-again (λ c. search needs) (λ c. omega arith) (λ c. omega arith)
+    (λ c. simp length-set (omega arith)) returns (λ c. search needs) (λ c. omega arith) (λ c. sym (length-take-le _ _ (omega arith)))
+    (λ c κs. search needs) add-i-2 loop-less-2 loop-again-2 (λ c. search needs) (λ c. omega arith)
+    (λ c. sym (length-take-le _ _ (omega arith))) (λ c κs. search needs) slice-write-out-2 add-result-2 (λ c. simp length-set (omega arith))
+    returns-2 (λ c. search needs) (λ c. omega arith) returns-3 (λ c. search needs) add-e (λ c. omega arith) (λ c. search needs)
+    part-emit-end emit-requires loop-less-3 loop-again-3 (λ c. omega arith) returns-4)

@@ -16,59 +16,34 @@ Inv-loop t s out₀ i₀ o₀ out i o = (o ≤ i) × (o ≤ length s) × (length
 abbrev μ-loop : tie.MeasureT-loop
 μ-loop t s out₀ i₀ o₀ out i o = length s - i
 
-loop-holds : tie.Need-loop-holds Inv-loop μ-loop
-loop-holds c = (omega arith, omega arith, refl, decode-start _)
-
-byte-at-requires : tie.Need-byte-at-requires Inv-loop μ-loop
-byte-at-requires c κs = search needs
-
-slash-requires : tie.Need-slash-requires Inv-loop μ-loop
-slash-requires c κs = search needs
-
-add-byte-at : tie.Need-add-byte-at Inv-loop μ-loop
-add-byte-at c = omega arith
-
-byte-at-requires-2 : tie.Need-byte-at-requires-2 Inv-loop μ-loop
-byte-at-requires-2 c κs = search needs
-
-slash-requires-2 : tie.Need-slash-requires-2 Inv-loop μ-loop
-slash-requires-2 c κs = search needs
-
-add-byte-at-2 : tie.Need-add-byte-at-2 Inv-loop μ-loop
-add-byte-at-2 c = omega arith
-
-byte-at-requires-3 : tie.Need-byte-at-requires-3 Inv-loop μ-loop
-byte-at-requires-3 c κs = search needs
-
-slash-requires-3 : tie.Need-slash-requires-3 Inv-loop μ-loop
-slash-requires-3 c κs = search needs
-
-low-triplet-requires : tie.Need-low-triplet-requires Inv-loop μ-loop
-low-triplet-requires c κs = search needs
-
-decoded-byte-requires : tie.Need-decoded-byte-requires Inv-loop μ-loop
-decoded-byte-requires c κs = search needs
-
-slice-write-out : tie.Need-slice-write-out Inv-loop μ-loop
-slice-write-out c = omega arith
-
-encoded-len-requires : tie.Need-encoded-len-requires Inv-loop μ-loop
-encoded-len-requires c κs = search needs
-
 add-i : tie.Need-add-i Inv-loop μ-loop
-add-i c = let t = one-or-three (ltb (c .before .before .low-triplet .result) 128) in omega (arith, c .encoded-len .ensures)
-
-add-o : tie.Need-add-o Inv-loop μ-loop
-add-o c = omega arith
+add-i c =
+    let t = one-or-three (ltb (c .before .before .low-triplet .result) 128) in
+    omega (arith, c .encoded-len .ensures)
 
 loop-less : tie.Need-loop-less Inv-loop μ-loop
-loop-less c = let t = one-or-three (ltb (c .before .before .low-triplet .result) 128) in omega (arith, c .encoded-len .ensures)
+loop-less c =
+    let t = one-or-three (ltb (c .before .before .low-triplet .result) 128) in
+    omega (arith, c .encoded-len .ensures)
 
 loop-again : tie.Need-loop-again Inv-loop μ-loop
-loop-again c = let t = one-or-three (ltb (c .before .before .low-triplet .result) 128) in (omega (arith, c .encoded-len .ensures), omega arith, simp length-set (omega arith), decode-turn _ _ _ _ _ _ _ _ (c .before .before .before .before .before .before .before .before .before .loop-test .taken) (c .before .before .before .before .before .before .before .before .byte-at .ensures) (c .before .before .before .before .before .before .before .slash .ensures) (c .before .before .before .before .before .before .byte-at2 .ensures) (c .before .before .before .before .before .slash2 .ensures) (c .before .before .before .before .byte-at3 .ensures) (c .before .before .before .slash3 .ensures) (c .before .before .before .before .before .before .before .before .before .before .loop .out) (c .before .before .before .before .before .before .before .before .before .before .loop .o) _ _ _ (omega arith) (c .before .before .low-triplet .ensures) (c .before .decoded-byte .ensures) (c .encoded-len .ensures) (c .before .before .before .before .before .before .before .before .before .before .loop .inv .3))
-
-same-length : tie.Need-same-length Inv-loop μ-loop
-same-length c = omega arith
+loop-again c =
+    let at-decoded-byte = c .before in
+    let at-low-triplet = at-decoded-byte .before in
+    let at-slash3 = at-low-triplet .before in
+    let at-byte-at3 = at-slash3 .before in
+    let at-slash2 = at-byte-at3 .before in
+    let at-byte-at2 = at-slash2 .before in
+    let at-slash = at-byte-at2 .before in
+    let at-byte-at = at-slash .before in
+    let at-loop-test = at-byte-at .before in
+    let at-loop = at-loop-test .before in
+    let t = one-or-three (ltb (at-low-triplet .low-triplet .result) 128) in
+    (omega (arith, c .encoded-len .ensures), omega arith, simp length-set (omega arith), decode-turn _ _ _ _ _ _ _ _
+    (at-loop-test .loop-test .taken) (at-byte-at .byte-at .ensures) (at-slash .slash .ensures) (at-byte-at2 .byte-at2 .ensures)
+    (at-slash2 .slash2 .ensures) (at-byte-at3 .byte-at3 .ensures) (at-slash3 .slash3 .ensures) (at-loop .loop .out) (at-loop .loop .o) _ _ _
+    (omega arith) (at-low-triplet .low-triplet .ensures) (at-decoded-byte .decoded-byte .ensures) (c .encoded-len .ensures)
+    (at-loop .loop .inv .3))
 
 returns : tie.Need-returns Inv-loop μ-loop
 returns c = decode-end _ _ _ _ (c .loop-test .left) (c .before .loop .inv .1) (c .before .loop .inv .3)
@@ -77,24 +52,7 @@ pub decode-by-spec : {M : Type 1} → statement M
 decode-by-spec =
     tie.close
     (tie.spec
-    Inv-loop
-    μ-loop
-    loop-holds
-    byte-at-requires
-    slash-requires
-    add-byte-at
-    byte-at-requires-2
-    slash-requires-2
-    add-byte-at-2
-    byte-at-requires-3
-    slash-requires-3
-    low-triplet-requires
-    decoded-byte-requires
-    slice-write-out
-    encoded-len-requires
-    add-i
-    add-o
-    loop-less
-    loop-again
-    same-length
+    Inv-loop μ-loop (λ c. (omega arith, omega arith, refl, decode-start _)) (λ c κs. search needs) (λ c κs. search needs) (λ c. omega arith)
+    (λ c κs. search needs) (λ c κs. search needs) (λ c. omega arith) (λ c κs. search needs) (λ c κs. search needs) (λ c κs. search needs)
+    (λ c κs. search needs) (λ c. omega arith) (λ c κs. search needs) add-i (λ c. omega arith) loop-less loop-again (λ c. omega arith)
     returns)

@@ -3,15 +3,10 @@ use Rattle.iri.specs.Pack.{partOrRoot}
 use Rattle.iri.proofs.pack.is_part_or_root.Statement.{statement}
 use Rattle.iri.proofs.pack.is_part_or_root.Tie as tie
 
-is-root-requires : tie.Need-is-root-requires
-is-root-requires c κs = search needs
-
-is-part-name-requires : tie.Need-is-part-name-requires
-is-part-name-requires c κs = search needs
-
 returns : tie.Need-returns
 unfolding partOrRoot
 returns c = rw (c .before .is-root .ensures, c .is-part-name .ensures)
 
 pub is-part-or-root-spec : {M : Type 1} → statement M
-is-part-or-root-spec = tie.close (tie.spec is-root-requires is-part-name-requires returns)
+is-part-or-root-spec = tie.close (tie.spec
+    (λ c κs. search needs) (λ c κs. search needs) returns)

@@ -6,67 +6,76 @@ use Rattle.iri.proofs.Locating.{no-pack, no-authority, no-room, no-end,
 use Rattle.iri.proofs.pack.locate.Statement.{statement}
 use Rattle.iri.proofs.pack.locate.Tie as tie
 
-split-requires : tie.Need-split-requires
-split-requires c κs = search needs
-
 slice-aggregate-is-pack : tie.Need-slice-aggregate-is-pack
-slice-aggregate-is-pack c = let h = c .before .split .ensures in sym (length-take-le _ _ (omega (arith, h .a-le, h .b-le, h .p-le, h .q-le)))
-
-is-pack-requires : tie.Need-is-pack-requires
-is-pack-requires c κs = search needs
+slice-aggregate-is-pack c =
+    let h = c .before .split .ensures in
+    sym (length-take-le _ _ (omega (arith, h .a-le, h .b-le, h .p-le, h .q-le)))
 
 returns : tie.Need-returns
-returns c = no-pack (c .before .before .before .before .before .args .s .now) _ _ _ _ (c .before .before .before .split .ensures) _ (c .before .is-pack .ensures) (c .if1 .taken)
+returns c =
+    let at-is-pack = c .before in
+    let at-split = at-is-pack .before .before in
+    let args = at-split .before .before .args in
+    no-pack (args .s .now) _ _ _ _ (at-split .split .ensures) _ (at-is-pack .is-pack .ensures) (c .if1 .taken)
 
 returns-2 : tie.Need-returns-2
-returns-2 c = no-authority (c .before .before .before .before .before .before .args .s .now) _ _ _ _ (c .before .before .before .before .split .ensures) _ (c .before .before .is-pack .ensures) (c .before .if1 .left) (c .if2 .taken)
-
-sub-if3 : tie.Need-sub-if3
-sub-if3 c = search needs
+returns-2 c =
+    let at-if1 = c .before in
+    let at-is-pack = at-if1 .before in
+    let at-split = at-is-pack .before .before in
+    let args = at-split .before .before .args in
+    no-authority (args .s .now) _ _ _ _ (at-split .split .ensures) _ (at-is-pack .is-pack .ensures) (at-if1 .if1 .left) (c .if2 .taken)
 
 returns-3 : tie.Need-returns-3
-returns-3 c = no-room (c .before .before .before .before .before .before .before .args .s .now) _ _ _ _ (c .before .before .before .before .before .split .ensures) _ (c .before .before .before .is-pack .ensures) (c .before .before .if1 .left) (c .before .if2 .left) (c .if3 .taken)
+returns-3 c =
+    let at-if2 = c .before in
+    let at-if1 = at-if2 .before in
+    let at-is-pack = at-if1 .before in
+    let at-split = at-is-pack .before .before in
+    let args = at-split .before .before .args in
+    no-room (args .s .now) _ _ _ _ (at-split .split .ensures) _ (at-is-pack .is-pack .ensures) (at-if1 .if1 .left) (at-if2 .if2 .left)
+    (c .if3 .taken)
 
 returns-4 : tie.Need-returns-4
-returns-4 c = no-end (c .before .before .before .before .before .before .before .before .args .s .now) _ _ _ _ (c .before .before .before .before .before .before .split .ensures) _ (c .before .before .before .before .is-pack .ensures) (c .before .before .before .if1 .left) (c .before .before .if2 .left) (c .before .if3 .left) (c .if4 .taken)
-
-sub-is-path : tie.Need-sub-is-path
-sub-is-path c = search needs
-
-part-is-path-start : tie.Need-part-is-path-start
-part-is-path-start c = search needs
-
-part-is-path-end : tie.Need-part-is-path-end
-part-is-path-end c = search needs
-
-is-path-requires : tie.Need-is-path-requires
-is-path-requires c κs = search needs
+returns-4 c =
+    let at-if3 = c .before in
+    let at-if2 = at-if3 .before in
+    let at-if1 = at-if2 .before in
+    let at-is-pack = at-if1 .before in
+    let at-split = at-is-pack .before .before in
+    let args = at-split .before .before .args in
+    no-end (args .s .now) _ _ _ _ (at-split .split .ensures) _ (at-is-pack .is-pack .ensures) (at-if1 .if1 .left) (at-if2 .if2 .left)
+    (at-if3 .if3 .left) (c .if4 .taken)
 
 returns-5 : tie.Need-returns-5
-returns-5 c = no-path (c .before .before .before .before .before .before .before .before .before .before .before .args .s .now) _ _ _ _ (c .before .before .before .before .before .before .before .before .before .split .ensures) _ (c .before .before .before .before .before .before .before .is-pack .ensures) (c .before .before .before .before .before .before .if1 .left) (c .before .before .before .before .before .if2 .left) (c .before .before .before .before .if3 .left) (c .before .before .before .if4 .left) _ (c .before .is-path .ensures) (c .if5 .taken)
-
-add-t10 : tie.Need-add-t10
-add-t10 c = search needs
+returns-5 c =
+    let at-is-path = c .before in
+    let at-if4 = at-is-path .before .before in
+    let at-if3 = at-if4 .before in
+    let at-if2 = at-if3 .before in
+    let at-if1 = at-if2 .before in
+    let at-is-pack = at-if1 .before in
+    let at-split = at-is-pack .before .before in
+    let args = at-split .before .before .args in
+    no-path (args .s .now) _ _ _ _ (at-split .split .ensures) _ (at-is-pack .is-pack .ensures) (at-if1 .if1 .left) (at-if2 .if2 .left)
+    (at-if3 .if3 .left) (at-if4 .if4 .left) _ (at-is-path .is-path .ensures) (c .if5 .taken)
 
 returns-6 : tie.Need-returns-6
-returns-6 c = located-at (c .before .before .before .before .before .before .before .before .before .before .before .args .s .now) _ _ _ _ (c .before .before .before .before .before .before .before .before .before .split .ensures) _ (c .before .before .before .before .before .before .before .is-pack .ensures) (c .before .before .before .before .before .before .if1 .left) (c .before .before .before .before .before .if2 .left) (c .before .before .before .before .if3 .left) (c .before .before .before .if4 .left) _ (c .before .is-path .ensures) (c .if5 .left)
+returns-6 c =
+    let at-is-path = c .before in
+    let at-if4 = at-is-path .before .before in
+    let at-if3 = at-if4 .before in
+    let at-if2 = at-if3 .before in
+    let at-if1 = at-if2 .before in
+    let at-is-pack = at-if1 .before in
+    let at-split = at-is-pack .before .before in
+    let args = at-split .before .before .args in
+    located-at (args .s .now) _ _ _ _ (at-split .split .ensures) _ (at-is-pack .is-pack .ensures) (at-if1 .if1 .left) (at-if2 .if2 .left)
+    (at-if3 .if3 .left) (at-if4 .if4 .left) _ (at-is-path .is-path .ensures) (c .if5 .left)
 
 pub locate-spec : {M : Type 1} → statement M
 locate-spec =
     tie.close
     (tie.spec
-    split-requires
-    slice-aggregate-is-pack
-    is-pack-requires
-    returns
-    returns-2
-    sub-if3
-    returns-3
-    returns-4
-    sub-is-path
-    part-is-path-start
-    part-is-path-end
-    is-path-requires
-    returns-5
-    add-t10
-    returns-6)
+    (λ c κs. search needs) slice-aggregate-is-pack (λ c κs. search needs) returns returns-2 (λ c. search needs) returns-3 returns-4
+    (λ c. search needs) (λ c. search needs) (λ c. search needs) (λ c κs. search needs) returns-5 (λ c. search needs) returns-6)

@@ -2,9 +2,6 @@ use borrow.Author.Needs.{needs}
 use Rattle.iri.proofs.pack.part_len.Statement.{statement}
 use Rattle.iri.proofs.pack.part_len.Tie as tie
 
-is-root-requires : tie.Need-is-root-requires
-is-root-requires c κs = search needs
-
 returns : tie.Need-returns
 returns c = rw (← (c .before .is-root .ensures), c .if1 .taken)
 
@@ -12,4 +9,5 @@ returns-2 : tie.Need-returns-2
 returns-2 c = rw (← (c .before .is-root .ensures), c .if1 .left)
 
 pub part-len-spec : {M : Type 1} → statement M
-part-len-spec = tie.close (tie.spec is-root-requires returns returns-2)
+part-len-spec = tie.close (tie.spec
+    (λ c κs. search needs) returns returns-2)

@@ -23,37 +23,25 @@ loop-holds : tie.Need-loop-holds Inv-loop μ-loop
 unfolding escaped
 loop-holds c = (search needs, refl, search needs, sent-none _ _)
 
-shared-slice-read-put-escape : tie.Need-shared-slice-read-put-escape Inv-loop μ-loop
-shared-slice-read-put-escape c = search needs
-
-put-escape-requires : tie.Need-put-escape-requires Inv-loop μ-loop
-put-escape-requires c κs = search needs
-
-add-i : tie.Need-add-i Inv-loop μ-loop
-add-i c = search needs
-
-loop-less : tie.Need-loop-less Inv-loop μ-loop
-loop-less c = search needs
-
 loop-again : tie.Need-loop-again Inv-loop μ-loop
 loop-again c =
-    let w = c .before .before .before .before .before .before .loop in
-    let h = now (c .before .before .before .before .before .before .before .before .before .args .s) in
-    let s = c .before .before .put-escape in
-    let l : w .i < length h = c .before .before .before .before .before .loop-test .taken in (
-      search needs,
-      s .kept .0 ∙ w .inv .1,
-      omega (arith, s .ensures .next-is, escape-few (getD h (w .i) 0)),
-      rw (escaped-more h (w .i) l) (sent-more _ (w .out) _ _ _ _ (w .at) _ (w .inv .3) (w .inv .1) (s .ensures)),
-    )
-
-same-length : tie.Need-same-length Inv-loop μ-loop
-same-length c = search needs
+    let at-put-escape = c .before .before in
+    let at-loop-test = at-put-escape .before .before .before in
+    let at-loop = at-loop-test .before in
+    let at-args = at-loop .before .before .before in
+    let w = at-loop .loop in
+    let h = now (at-args .args .s) in
+    let s = at-put-escape .put-escape in
+    let l : w .i < length h = at-loop-test .loop-test .taken in
+    ( search needs, s .kept .0 ∙ w .inv .1, omega (arith, s .ensures .next-is, escape-few (getD h (w .i) 0)), rw (escaped-more h (w .i) l)
+    (sent-more _ (w .out) _ _ _ _ (w .at) _ (w .inv .3) (w .inv .1) (s .ensures)), )
 
 returns : tie.Need-returns Inv-loop μ-loop
 returns c =
-    let w = c .before .loop in
-    let h = now (c .before .before .before .before .args .s) in
+    let at-loop = c .before in
+    let at-args = at-loop .before .before .before in
+    let w = at-loop .loop in
+    let h = now (at-args .args .s) in
     let e : take (w .i) h ≡ h = take-all (w .i) h (search needs) in
     rw e at (w .inv .3)
 
@@ -61,13 +49,5 @@ pub put-escaped-spec : {M : Type 1} → statement M
 put-escaped-spec =
     tie.close
     (tie.spec
-    Inv-loop
-    μ-loop
-    loop-holds
-    shared-slice-read-put-escape
-    put-escape-requires
-    add-i
-    loop-less
-    loop-again
-    same-length
-    returns)
+    Inv-loop μ-loop loop-holds (λ c. search needs) (λ c κs. search needs) (λ c. search needs) (λ c. search needs) loop-again
+    (λ c. search needs) returns)

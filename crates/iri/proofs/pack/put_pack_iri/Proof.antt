@@ -4,71 +4,63 @@ use borrow.Author.Needs.{needs}
 use Rattle.iri.proofs.pack.put_pack_iri.Statement.{statement}
 use Rattle.iri.proofs.pack.put_pack_iri.Tie as tie
 
-find-requires : tie.Need-find-requires
-find-requires c κs = search needs
-
 slice-aggregate-put-authority : tie.Need-slice-aggregate-put-authority
-slice-aggregate-put-authority c = unfragmented-length (c .before .before .before .before .before .args .p .now) (c .before .before .before .before .before .args .path .now) (c .before .before .before .before .before .pre .0) (c .before .before .before .before .before .pre .1) _ (c .before .find .ensures)
-
-slice-relend-prefix-put-authority : tie.Need-slice-relend-prefix-put-authority
-slice-relend-prefix-put-authority c = search needs
-
-slice-aggregate-put-authority-2 : tie.Need-slice-aggregate-put-authority-2
-slice-aggregate-put-authority-2 c = search needs
+slice-aggregate-put-authority c =
+    let at-find = c .before in
+    let at-args = at-find .before .before .before .before in
+    unfragmented-length (at-args .args .p .now) (at-args .args .path .now) (at-args .pre .0) (at-args .pre .1) _ (at-find .find .ensures)
 
 put-authority-requires : tie.Need-put-authority-requires
-put-authority-requires c κs = unfragmented-few (c .before .before .before .before .before .before .args .p .now) (c .before .before .before .before .before .before .args .path .now) (c .before .before .before .before .before .before .pre .0) (c .before .before .before .before .before .before .pre .1) _ (c .before .before .find .ensures)
+put-authority-requires c κs =
+    let at-find = c .before .before in
+    let at-args = at-find .before .before .before .before in
+    unfragmented-few (at-args .args .p .now) (at-args .args .path .now) (at-args .pre .0) (at-args .pre .1) _ (at-find .find .ensures)
 
 add-need : tie.Need-add-need
-add-need c = let l = head-end-few (c .before .before .before .before .before .before .before .before .before .args .p .now) (c .before .before .before .before .before .before .before .before .before .args .path .now) (c .before .before .before .before .before .before .before .before .before .pre .0) (c .before .before .before .before .before .before .before .before .before .pre .1) _ (c .before .before .before .before .before .find .ensures) _ _ _ (c .before .before .put-authority .ensures) in omega (arith, l, c .before .before .before .before .before .before .before .before .before .pre .1)
-
-same-length : tie.Need-same-length
-same-length c = search needs
+add-need c =
+    let at-put-authority = c .before .before in
+    let at-find = at-put-authority .before .before .before in
+    let at-args = at-find .before .before .before .before in
+    let l = head-end-few (at-args .args .p .now) (at-args .args .path .now) (at-args .pre .0) (at-args .pre .1) _ (at-find .find .ensures) _
+    _ _ (at-put-authority .put-authority .ensures) in
+    omega (arith, l, at-args .pre .1)
 
 returns : tie.Need-returns
-returns c = pack-none (c .before .before .before .before .before .before .before .before .before .before .args .p .now) (c .before .before .before .before .before .before .before .before .before .before .args .path .now) (c .before .before .before .before .before .before .before .before .before .before .pre .0) (c .before .before .before .before .before .before .before .before .before .before .pre .1) _ (c .before .before .before .before .before .before .find .ensures) _ _ _ (c .before .before .before .put-authority .ensures) (c .before .before .before .before .before .before .before .before .before .before .args .out .now) (c .before .before .before .put-authority .kept .1 .0) (c .if1 .taken)
+returns c =
+    let at-put-authority = c .before .before .before in
+    let at-find = at-put-authority .before .before .before in
+    let at-args = at-find .before .before .before .before in
+    pack-none (at-args .args .p .now) (at-args .args .path .now) (at-args .pre .0) (at-args .pre .1) _ (at-find .find .ensures) _ _ _
+    (at-put-authority .put-authority .ensures) (at-args .args .out .now) (at-put-authority .put-authority .kept .1 .0) (c .if1 .taken)
 
 slice-aggregate-put-authority-3 : tie.Need-slice-aggregate-put-authority-3
-slice-aggregate-put-authority-3 c = unfragmented-length (c .before .before .before .before .before .before .before .before .before .before .before .args .p .now) (c .before .before .before .before .before .before .before .before .before .before .before .args .path .now) (c .before .before .before .before .before .before .before .before .before .before .before .pre .0) (c .before .before .before .before .before .before .before .before .before .before .before .pre .1) _ (c .before .before .before .before .before .before .before .find .ensures)
+slice-aggregate-put-authority-3 c =
+    let at-find = c .before .before .before .before .before .before .before in
+    let at-args = at-find .before .before .before .before in
+    unfragmented-length (at-args .args .p .now) (at-args .args .path .now) (at-args .pre .0) (at-args .pre .1) _ (at-find .find .ensures)
 
 put-authority-requires-2 : tie.Need-put-authority-requires-2
-put-authority-requires-2 c κs = unfragmented-few (c .before .before .before .before .before .before .before .before .before .before .before .before .args .p .now) (c .before .before .before .before .before .before .before .before .before .before .before .before .args .path .now) (c .before .before .before .before .before .before .before .before .before .before .before .before .pre .0) (c .before .before .before .before .before .before .before .before .before .before .before .before .pre .1) _ (c .before .before .before .before .before .before .before .before .find .ensures)
-
-sub-put-path : tie.Need-sub-put-path
-sub-put-path c = search needs
-
-part-put-path-start : tie.Need-part-put-path-start
-part-put-path-start c = search needs
-
-part-put-path-end : tie.Need-part-put-path-end
-part-put-path-end c = search needs
-
-put-path-requires : tie.Need-put-path-requires
-put-path-requires c κs = search needs
-
-same-length-2 : tie.Need-same-length-2
-same-length-2 c = search needs
+put-authority-requires-2 c κs =
+    let at-find = c .before .before .before .before .before .before .before .before in
+    let at-args = at-find .before .before .before .before in
+    unfragmented-few (at-args .args .p .now) (at-args .args .path .now) (at-args .pre .0) (at-args .pre .1) _ (at-find .find .ensures)
 
 returns-2 : tie.Need-returns-2
-returns-2 c = pack-sent (c .before .before .before .before .before .before .before .before .before .before .before .before .before .before .before .before .before .before .before .args .p .now) (c .before .before .before .before .before .before .before .before .before .before .before .before .before .before .before .before .before .before .before .args .path .now) (c .before .before .before .before .before .before .before .before .before .before .before .before .before .before .before .before .before .before .before .pre .0) (c .before .before .before .before .before .before .before .before .before .before .before .before .before .before .before .before .before .before .before .pre .1) _ (c .before .before .before .before .before .before .before .before .before .before .before .before .before .before .before .find .ensures) _ _ _ (c .before .before .before .before .before .before .before .before .before .before .before .before .put-authority .ensures) (c .before .before .before .before .before .before .before .before .before .before .before .before .before .before .before .before .before .before .before .args .out .now) (c .before .before .before .before .before .before .before .before .before .before .before .before .put-authority .kept .1 .0) (c .before .before .before .before .before .before .before .before .before .if1 .left) _ _ (c .before .before .before .before .before .before .put-authority2 .ensures) _ _ (c .before .before .put-path .ensures)
+returns-2 c =
+    let at-put-path = c .before .before in
+    let at-put-authority2 = at-put-path .before .before .before .before in
+    let at-if1 = at-put-authority2 .before .before .before in
+    let at-put-authority = at-if1 .before .before .before in
+    let at-find = at-put-authority .before .before .before in
+    let at-args = at-find .before .before .before .before in
+    pack-sent (at-args .args .p .now) (at-args .args .path .now) (at-args .pre .0) (at-args .pre .1) _ (at-find .find .ensures) _ _ _
+    (at-put-authority .put-authority .ensures) (at-args .args .out .now) (at-put-authority .put-authority .kept .1 .0) (at-if1 .if1 .left) _
+    _ (at-put-authority2 .put-authority2 .ensures) _ _ (at-put-path .put-path .ensures)
 
 pub put-pack-iri-spec : {M : Type 1} → statement M
 put-pack-iri-spec =
     tie.close
     (tie.spec
-    find-requires
-    slice-aggregate-put-authority
-    slice-relend-prefix-put-authority
-    slice-aggregate-put-authority-2
-    put-authority-requires
-    add-need
-    same-length
-    returns
-    slice-aggregate-put-authority-3
-    put-authority-requires-2
-    sub-put-path
-    part-put-path-start
-    part-put-path-end
-    put-path-requires
-    same-length-2
-    returns-2)
+    (λ c κs. search needs) slice-aggregate-put-authority (λ c. search needs) (λ c. search needs) put-authority-requires add-need
+    (λ c. search needs) returns slice-aggregate-put-authority-3 put-authority-requires-2 (λ c. search needs) (λ c. search needs)
+    (λ c. search needs) (λ c κs. search needs) (λ c. search needs) returns-2)

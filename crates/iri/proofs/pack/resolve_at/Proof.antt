@@ -9,107 +9,114 @@ use Rattle.iri.proofs.Resolving.{package-end-length, pack-refused, part
 use Rattle.iri.proofs.pack.resolve_at.Statement.{statement}
 use Rattle.iri.proofs.pack.resolve_at.Tie as tie
 
-sub-decode : tie.Need-sub-decode
-sub-decode c = search needs
-
-part-decode-start : tie.Need-part-decode-start
-part-decode-start c = search needs
-
-part-decode-end : tie.Need-part-decode-end
-part-decode-end c = search needs
-
-slice-aggregate-decode : tie.Need-slice-aggregate-decode
-slice-aggregate-decode c = search needs
-
-decode-requires : tie.Need-decode-requires
-decode-requires c κs = search needs
-
-array-share-prefix-package : tie.Need-array-share-prefix-package
-array-share-prefix-package c = search needs
-
 slice-aggregate-is-unfragmented : tie.Need-slice-aggregate-is-unfragmented
-slice-aggregate-is-unfragmented c = package-end-length (c .before .before .before .before .before .before .before .args .s .now) _ _ (c .before .before .before .before .before .before .before .pre) _ _ (c .before .before .decode .ensures) (c .before .before .decode .kept .1 .0)
-
-is-unfragmented-requires : tie.Need-is-unfragmented-requires
-is-unfragmented-requires c κs = search needs
+slice-aggregate-is-unfragmented c =
+    let at-decode = c .before .before in
+    let at-args = at-decode .before .before .before .before .before in
+    package-end-length (at-args .args .s .now) _ _ (at-args .pre) _ _ (at-decode .decode .ensures) (at-decode .decode .kept .1 .0)
 
 returns : tie.Need-returns
-returns c = located-refused (resolvePack (c .before .before .before .before .before .before .before .before .before .args .s .now)) 9 (c .before .before .before .before .before .before .before .before .before .args .out .now) (omega arith) (pack-refused (c .before .before .before .before .before .before .before .before .before .args .s .now) _ _ (c .before .before .before .before .before .before .before .before .before .pre) _ _ (c .before .before .before .before .decode .ensures) (c .before .before .before .before .decode .kept .1 .0) _ (c .before .is-unfragmented .ensures) (c .if1 .taken))
-
-sub-part-len : tie.Need-sub-part-len
-sub-part-len c = search needs
-
-part-part-len-start : tie.Need-part-part-len-start
-part-part-len-start c = search needs
-
-part-part-len-end : tie.Need-part-part-len-end
-part-part-len-end c = search needs
-
-part-len-requires : tie.Need-part-len-requires
-part-len-requires c κs = search needs
+returns c =
+    let at-is-unfragmented = c .before in
+    let at-decode = at-is-unfragmented .before .before .before in
+    let at-args = at-decode .before .before .before .before .before in
+    located-refused (resolvePack (at-args .args .s .now)) 9 (at-args .args .out .now) (omega arith)
+    (pack-refused (at-args .args .s .now) _ _ (at-args .pre) _ _ (at-decode .decode .ensures) (at-decode .decode .kept .1 .0) _
+    (at-is-unfragmented .is-unfragmented .ensures) (c .if1 .taken))
 
 add-e : tie.Need-add-e
-add-e c = let l = part-end-le (c .before .before .before .before .before .before .before .before .before .before .before .args .s .now) _ _ (c .before .before .before .before .before .before .before .before .before .before .before .pre) _ _ (c .before .before .before .before .before .before .decode .ensures) (c .before .before .before .before .before .before .decode .kept .1 .0) _ (c .before .before .before .is-unfragmented .ensures) (c .before .before .if1 .left) _ (c .part-len .ensures) in omega arith
+add-e c =
+    let at-if1 = c .before .before in
+    let at-is-unfragmented = at-if1 .before in
+    let at-decode = at-is-unfragmented .before .before .before in
+    let at-args = at-decode .before .before .before .before .before in
+    let l = part-end-le (at-args .args .s .now) _ _ (at-args .pre) _ _ (at-decode .decode .ensures) (at-decode .decode .kept .1 .0) _
+    (at-is-unfragmented .is-unfragmented .ensures) (at-if1 .if1 .left) _ (c .part-len .ensures) in
+    omega arith
 
 add-need : tie.Need-add-need
-add-need c = let l = part-end-few (c .before .before .before .before .before .before .before .before .before .before .before .args .s .now) _ _ (c .before .before .before .before .before .before .before .before .before .before .before .pre) _ _ (c .before .before .before .before .before .before .decode .ensures) (c .before .before .before .before .before .before .decode .kept .1 .0) _ (c .before .before .before .is-unfragmented .ensures) (c .before .before .if1 .left) _ (c .part-len .ensures) in let g = package-end-few (c .before .before .before .before .before .before .before .before .before .before .before .args .s .now) _ _ (c .before .before .before .before .before .before .before .before .before .before .before .pre) _ _ (c .before .before .before .before .before .before .decode .ensures) (c .before .before .before .before .before .before .decode .kept .1 .0) in omega arith
+add-need c =
+    let at-if1 = c .before .before in
+    let at-is-unfragmented = at-if1 .before in
+    let at-decode = at-is-unfragmented .before .before .before in
+    let at-args = at-decode .before .before .before .before .before in
+    let l = part-end-few (at-args .args .s .now) _ _ (at-args .pre) _ _ (at-decode .decode .ensures) (at-decode .decode .kept .1 .0) _
+    (at-is-unfragmented .is-unfragmented .ensures) (at-if1 .if1 .left) _ (c .part-len .ensures) in
+    let g = package-end-few (at-args .args .s .now) _ _ (at-args .pre) _ _ (at-decode .decode .ensures) (at-decode .decode .kept .1 .0) in
+    omega arith
 
 returns-2 : tie.Need-returns-2
-returns-2 c = pack-short (c .before .before .before .before .before .before .before .before .before .before .before .before .args .s .now) _ _ (c .before .before .before .before .before .before .before .before .before .before .before .before .pre) _ _ (c .before .before .before .before .before .before .before .decode .ensures) (c .before .before .before .before .before .before .before .decode .kept .1 .0) _ (c .before .before .before .before .is-unfragmented .ensures) (c .before .before .before .if1 .left) _ (c .before .part-len .ensures) (c .before .before .before .before .before .before .before .before .before .before .before .before .args .out .now) (c .if2 .taken)
-
-array-share-prefix-package-2 : tie.Need-array-share-prefix-package-2
-array-share-prefix-package-2 c = search needs
+returns-2 c =
+    let at-part-len = c .before in
+    let at-if1 = at-part-len .before .before in
+    let at-is-unfragmented = at-if1 .before in
+    let at-decode = at-is-unfragmented .before .before .before in
+    let at-args = at-decode .before .before .before .before .before in
+    pack-short (at-args .args .s .now) _ _ (at-args .pre) _ _ (at-decode .decode .ensures) (at-decode .decode .kept .1 .0) _
+    (at-is-unfragmented .is-unfragmented .ensures) (at-if1 .if1 .left) _ (at-part-len .part-len .ensures) (at-args .args .out .now)
+    (c .if2 .taken)
 
 slice-aggregate-emit : tie.Need-slice-aggregate-emit
-slice-aggregate-emit c = package-end-length (c .before .before .before .before .before .before .before .before .before .before .before .before .before .before .args .s .now) _ _ (c .before .before .before .before .before .before .before .before .before .before .before .before .before .before .pre) _ _ (c .before .before .before .before .before .before .before .before .before .decode .ensures) (c .before .before .before .before .before .before .before .before .before .decode .kept .1 .0)
+slice-aggregate-emit c =
+    let at-decode = c .before .before .before .before .before .before .before .before .before in
+    let at-args = at-decode .before .before .before .before .before in
+    package-end-length (at-args .args .s .now) _ _ (at-args .pre) _ _ (at-decode .decode .ensures) (at-decode .decode .kept .1 .0)
 
 emit-requires : tie.Need-emit-requires
-emit-requires c κs = (omega arith, omega (arith, package-end-few (c .before .before .before .before .before .before .before .before .before .before .before .before .before .before .args .s .now) _ _ (c .before .before .before .before .before .before .before .before .before .before .before .before .before .before .pre) _ _ (c .before .before .before .before .before .before .before .before .before .decode .ensures) (c .before .before .before .before .before .before .before .before .before .decode .kept .1 .0), package-end-length (c .before .before .before .before .before .before .before .before .before .before .before .before .before .before .args .s .now) _ _ (c .before .before .before .before .before .before .before .before .before .before .before .before .before .before .pre) _ _ (c .before .before .before .before .before .before .before .before .before .decode .ensures) (c .before .before .before .before .before .before .before .before .before .decode .kept .1 .0)))
-
-sub-emit : tie.Need-sub-emit
-sub-emit c = search needs
-
-part-emit-start : tie.Need-part-emit-start
-part-emit-start c = search needs
+emit-requires c κs =
+    let at-decode = c .before .before .before .before .before .before .before .before .before in
+    let at-args = at-decode .before .before .before .before .before in
+    (omega arith, omega (arith, package-end-few (at-args .args .s .now) _ _ (at-args .pre) _ _ (at-decode .decode .ensures)
+    (at-decode .decode .kept .1 .0), package-end-length (at-args .args .s .now) _ _ (at-args .pre) _ _ (at-decode .decode .ensures)
+    (at-decode .decode .kept .1 .0)))
 
 part-emit-end : tie.Need-part-emit-end
-part-emit-end c = let l = part-end-le (c .before .before .before .before .before .before .before .before .before .before .before .before .before .before .before .before .before .before .args .s .now) _ _ (c .before .before .before .before .before .before .before .before .before .before .before .before .before .before .before .before .before .before .pre) _ _ (c .before .before .before .before .before .before .before .before .before .before .before .before .before .decode .ensures) (c .before .before .before .before .before .before .before .before .before .before .before .before .before .decode .kept .1 .0) _ (c .before .before .before .before .before .before .before .before .before .before .is-unfragmented .ensures) (c .before .before .before .before .before .before .before .before .before .if1 .left) _ (c .before .before .before .before .before .before .before .part-len .ensures) in search needs
+part-emit-end c =
+    let at-part-len = c .before .before .before .before .before .before .before in
+    let at-if1 = at-part-len .before .before in
+    let at-is-unfragmented = at-if1 .before in
+    let at-decode = at-is-unfragmented .before .before .before in
+    let at-args = at-decode .before .before .before .before .before in
+    let l = part-end-le (at-args .args .s .now) _ _ (at-args .pre) _ _ (at-decode .decode .ensures) (at-decode .decode .kept .1 .0) _
+    (at-is-unfragmented .is-unfragmented .ensures) (at-if1 .if1 .left) _ (at-part-len .part-len .ensures) in
+    search needs
 
 emit-requires-2 : tie.Need-emit-requires-2
-emit-requires-2 c κs = let l = part-end-few (c .before .before .before .before .before .before .before .before .before .before .before .before .before .before .before .before .before .before .before .args .s .now) _ _ (c .before .before .before .before .before .before .before .before .before .before .before .before .before .before .before .before .before .before .before .pre) _ _ (c .before .before .before .before .before .before .before .before .before .before .before .before .before .before .decode .ensures) (c .before .before .before .before .before .before .before .before .before .before .before .before .before .before .decode .kept .1 .0) _ (c .before .before .before .before .before .before .before .before .before .before .before .is-unfragmented .ensures) (c .before .before .before .before .before .before .before .before .before .before .if1 .left) _ (c .before .before .before .before .before .before .before .before .part-len .ensures) in let y = c .before .before .before .before .before .before .before .before .before .before .before .before .before .before .before .before .before .before .before .args .y in let m = c .before .before .before .before .before .before .before .before .part-len .result in (omega (arith, c .before .before .before .before .emit .ensures .next-is, package-end-few (c .before .before .before .before .before .before .before .before .before .before .before .before .before .before .before .before .before .before .before .args .s .now) _ _ (c .before .before .before .before .before .before .before .before .before .before .before .before .before .before .before .before .before .before .before .pre) _ _ (c .before .before .before .before .before .before .before .before .before .before .before .before .before .before .decode .ensures) (c .before .before .before .before .before .before .before .before .before .before .before .before .before .before .decode .kept .1 .0), package-end-length (c .before .before .before .before .before .before .before .before .before .before .before .before .before .before .before .before .before .before .before .args .s .now) _ _ (c .before .before .before .before .before .before .before .before .before .before .before .before .before .before .before .before .before .before .before .pre) _ _ (c .before .before .before .before .before .before .before .before .before .before .before .before .before .before .decode .ensures) (c .before .before .before .before .before .before .before .before .before .before .before .before .before .before .decode .kept .1 .0)), omega (arith, length-take-few (y + m - y) (drop y (c .before .before .before .before .before .before .before .before .before .before .before .before .before .before .before .before .before .before .before .args .s .now))))
-
-same-length : tie.Need-same-length
-same-length c = search needs
+emit-requires-2 c κs =
+    let at-emit = c .before .before .before .before in
+    let at-part-len = at-emit .before .before .before .before in
+    let at-if1 = at-part-len .before .before in
+    let at-is-unfragmented = at-if1 .before in
+    let at-decode = at-is-unfragmented .before .before .before in
+    let at-args = at-decode .before .before .before .before .before in
+    let l = part-end-few (at-args .args .s .now) _ _ (at-args .pre) _ _ (at-decode .decode .ensures) (at-decode .decode .kept .1 .0) _
+    (at-is-unfragmented .is-unfragmented .ensures) (at-if1 .if1 .left) _ (at-part-len .part-len .ensures) in
+    let y = at-args .args .y in
+    let m = at-part-len .part-len .result in
+    (omega (arith, at-emit .emit .ensures .next-is, package-end-few (at-args .args .s .now) _ _ (at-args .pre) _ _
+    (at-decode .decode .ensures) (at-decode .decode .kept .1 .0), package-end-length (at-args .args .s .now) _ _ (at-args .pre) _ _
+    (at-decode .decode .ensures) (at-decode .decode .kept .1 .0)), omega
+    (arith, length-take-few (y + m - y) (drop y (at-args .args .s .now))))
 
 returns-3 : tie.Need-returns-3
-returns-3 c = pack-found (c .before .before .before .before .before .before .before .before .before .before .before .before .before .before .before .before .before .before .before .before .before .before .args .s .now) _ _ (c .before .before .before .before .before .before .before .before .before .before .before .before .before .before .before .before .before .before .before .before .before .before .pre) _ _ (c .before .before .before .before .before .before .before .before .before .before .before .before .before .before .before .before .before .decode .ensures) (c .before .before .before .before .before .before .before .before .before .before .before .before .before .before .before .before .before .decode .kept .1 .0) _ (c .before .before .before .before .before .before .before .before .before .before .before .before .before .before .is-unfragmented .ensures) (c .before .before .before .before .before .before .before .before .before .before .before .before .before .if1 .left) _ (c .before .before .before .before .before .before .before .before .before .before .before .part-len .ensures) (c .before .before .before .before .before .before .before .before .before .before .before .before .before .before .before .before .before .before .before .before .before .before .args .out .now) _ _ _ _ (c .before .before .before .before .before .before .before .before .before .before .if2 .left) (c .before .before .before .before .before .before .before .emit .ensures) (c .before .before .before .before .before .before .before .emit .kept .0) (c .before .before .emit2 .ensures)
+returns-3 c =
+    let at-emit2 = c .before .before in
+    let at-emit = at-emit2 .before .before .before .before .before in
+    let at-if2 = at-emit .before .before .before in
+    let at-part-len = at-if2 .before in
+    let at-if1 = at-part-len .before .before in
+    let at-is-unfragmented = at-if1 .before in
+    let at-decode = at-is-unfragmented .before .before .before in
+    let at-args = at-decode .before .before .before .before .before in
+    pack-found (at-args .args .s .now) _ _ (at-args .pre) _ _ (at-decode .decode .ensures) (at-decode .decode .kept .1 .0) _
+    (at-is-unfragmented .is-unfragmented .ensures) (at-if1 .if1 .left) _ (at-part-len .part-len .ensures) (at-args .args .out .now) _ _ _ _
+    (at-if2 .if2 .left) (at-emit .emit .ensures) (at-emit .emit .kept .0) (at-emit2 .emit2 .ensures)
 
 pub resolve-at-spec : {M : Type 1} → statement M
 resolve-at-spec =
     tie.close
     (tie.spec
-    sub-decode
-    part-decode-start
-    part-decode-end
-    slice-aggregate-decode
-    decode-requires
-    array-share-prefix-package
-    slice-aggregate-is-unfragmented
-    is-unfragmented-requires
-    returns
-    sub-part-len
-    part-part-len-start
-    part-part-len-end
-    part-len-requires
-    add-e
-    add-need
-    returns-2
-    array-share-prefix-package-2
-    slice-aggregate-emit
-    emit-requires
-    sub-emit
-    part-emit-start
-    part-emit-end
-    emit-requires-2
-    same-length
-    returns-3)
+    (λ c. search needs) (λ c. search needs) (λ c. search needs) (λ c. search needs) (λ c κs. search needs) (λ c. search needs)
+    slice-aggregate-is-unfragmented (λ c κs. search needs) returns (λ c. search needs) (λ c. search needs) (λ c. search needs)
+    (λ c κs. search needs) add-e add-need returns-2 (λ c. search needs) slice-aggregate-emit emit-requires (λ c. search needs)
+    (λ c. search needs) part-emit-end emit-requires-2 (λ c. search needs) returns-3)

@@ -12,4 +12,5 @@ unfolding slashed
 returns-2 c = rw (ne-eqb _ _ (c .if1 .left))
 
 pub slash-spec : {M : Type 1} → statement M
-slash-spec = tie.close (tie.spec returns returns-2)
+slash-spec = tie.close (tie.spec
+    returns returns-2)

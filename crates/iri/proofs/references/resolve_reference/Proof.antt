@@ -7,43 +7,63 @@ use borrow.Author.Needs.{needs}
 use Rattle.iri.proofs.references.resolve_reference.Statement.{statement}
 use Rattle.iri.proofs.references.resolve_reference.Tie as tie
 
-is-package-iri-requires : tie.Need-is-package-iri-requires
-is-package-iri-requires c κs = search needs
-
 returns : tie.Need-returns
-returns c = answer-refused (resolveReference (c .before .before .before .before .before .args .base .now) (c .before .before .before .before .before .args .reference .now)) 9 (c .before .before .before .before .before .args .out .now) (omega arith) (reference-base (c .before .before .before .before .before .args .base .now) (c .before .before .before .before .before .args .reference .now) _ (c .before .is-package-iri .ensures) (c .if1 .taken))
-
-is-iri-requires : tie.Need-is-iri-requires
-is-iri-requires c κs = search needs
+returns c =
+    let at-is-package-iri = c .before in
+    let at-args = at-is-package-iri .before .before .before .before in
+    answer-refused (resolveReference (at-args .args .base .now) (at-args .args .reference .now)) 9 (at-args .args .out .now) (omega arith)
+    (reference-base (at-args .args .base .now) (at-args .args .reference .now) _ (at-is-package-iri .is-package-iri .ensures)
+    (c .if1 .taken))
 
 returns-2 : tie.Need-returns-2
-returns-2 c = answer-refused (resolveReference (c .before .before .before .before .before .before .before .args .base .now) (c .before .before .before .before .before .before .before .args .reference .now)) 9 (c .before .before .before .before .before .before .before .args .out .now) (omega arith) (reference-no (c .before .before .before .before .before .before .before .args .base .now) (c .before .before .before .before .before .before .before .args .reference .now) _ (c .before .before .before .is-package-iri .ensures) (c .before .before .if1 .left) _ (c .before .is-iri .ensures) (c .if2 .taken))
+returns-2 c =
+    let at-is-iri = c .before in
+    let at-if1 = at-is-iri .before in
+    let at-is-package-iri = at-if1 .before in
+    let at-args = at-is-package-iri .before .before .before .before in
+    answer-refused (resolveReference (at-args .args .base .now) (at-args .args .reference .now)) 9 (at-args .args .out .now) (omega arith)
+    (reference-no (at-args .args .base .now) (at-args .args .reference .now) _ (at-is-package-iri .is-package-iri .ensures)
+    (at-if1 .if1 .left) _ (at-is-iri .is-iri .ensures) (c .if2 .taken))
 
 put-reference-requires : tie.Need-put-reference-requires
-put-reference-requires c κs = judged-few (c .before .before .before .before .before .before .before .before .args .base .now) (c .before .before .before .before .before .before .before .before .args .reference .now) _ (c .before .before .before .before .is-package-iri .ensures) (c .before .before .before .if1 .left) _ (c .before .before .is-iri .ensures) (c .before .if2 .left)
-
-same-length : tie.Need-same-length
-same-length c = search needs
+put-reference-requires c κs =
+    let at-if2 = c .before in
+    let at-is-iri = at-if2 .before in
+    let at-if1 = at-is-iri .before in
+    let at-is-package-iri = at-if1 .before in
+    let args = at-is-package-iri .before .before .before .before .args in
+    judged-few (args .base .now) (args .reference .now) _ (at-is-package-iri .is-package-iri .ensures) (at-if1 .if1 .left) _
+    (at-is-iri .is-iri .ensures) (at-if2 .if2 .left)
 
 returns-3 : tie.Need-returns-3
-returns-3 c = fitted-short (resolveReference (c .before .before .before .before .before .before .before .before .before .before .before .before .args .base .now) (c .before .before .before .before .before .before .before .before .before .before .before .before .args .reference .now)) (resolve (c .before .before .before .before .before .before .before .before .before .before .before .before .args .base .now) (c .before .before .before .before .before .before .before .before .before .before .before .before .args .reference .now)) (c .before .before .before .before .before .before .before .before .before .before .before .before .args .out .now) _ _ (reference-text (c .before .before .before .before .before .before .before .before .before .before .before .before .args .base .now) (c .before .before .before .before .before .before .before .before .before .before .before .before .args .reference .now) _ (c .before .before .before .before .before .before .before .before .is-package-iri .ensures) (c .before .before .before .before .before .before .before .if1 .left) _ (c .before .before .before .before .before .before .is-iri .ensures) (c .before .before .before .before .before .if2 .left)) (c .before .before .before .put-reference .ensures) (c .before .before .before .put-reference .kept .1 .1 .0) (c .if3 .taken)
-
-same-length-2 : tie.Need-same-length-2
-same-length-2 c = search needs
+returns-3 c =
+    let at-put-reference = c .before .before .before in
+    let at-if2 = at-put-reference .before .before in
+    let at-is-iri = at-if2 .before in
+    let at-if1 = at-is-iri .before in
+    let at-is-package-iri = at-if1 .before in
+    let args = at-is-package-iri .before .before .before .before .args in
+    fitted-short (resolveReference (args .base .now) (args .reference .now)) (resolve (args .base .now) (args .reference .now))
+    (args .out .now) _ _ (reference-text (args .base .now) (args .reference .now) _ (at-is-package-iri .is-package-iri .ensures)
+    (at-if1 .if1 .left) _ (at-is-iri .is-iri .ensures) (at-if2 .if2 .left)) (at-put-reference .put-reference .ensures)
+    (at-put-reference .put-reference .kept .1 .1 .0) (c .if3 .taken)
 
 returns-4 : tie.Need-returns-4
-returns-4 c = fitted-bytes (resolveReference (c .before .before .before .before .before .before .before .before .before .before .before .before .args .base .now) (c .before .before .before .before .before .before .before .before .before .before .before .before .args .reference .now)) (resolve (c .before .before .before .before .before .before .before .before .before .before .before .before .args .base .now) (c .before .before .before .before .before .before .before .before .before .before .before .before .args .reference .now)) (c .before .before .before .before .before .before .before .before .before .before .before .before .args .out .now) _ _ (reference-text (c .before .before .before .before .before .before .before .before .before .before .before .before .args .base .now) (c .before .before .before .before .before .before .before .before .before .before .before .before .args .reference .now) _ (c .before .before .before .before .before .before .before .before .is-package-iri .ensures) (c .before .before .before .before .before .before .before .if1 .left) _ (c .before .before .before .before .before .before .is-iri .ensures) (c .before .before .before .before .before .if2 .left)) (c .before .before .before .put-reference .ensures) (c .before .before .before .put-reference .kept .1 .1 .0) (c .if3 .left)
+returns-4 c =
+    let at-put-reference = c .before .before .before in
+    let at-if2 = at-put-reference .before .before in
+    let at-is-iri = at-if2 .before in
+    let at-if1 = at-is-iri .before in
+    let at-is-package-iri = at-if1 .before in
+    let args = at-is-package-iri .before .before .before .before .args in
+    fitted-bytes (resolveReference (args .base .now) (args .reference .now)) (resolve (args .base .now) (args .reference .now))
+    (args .out .now) _ _ (reference-text (args .base .now) (args .reference .now) _ (at-is-package-iri .is-package-iri .ensures)
+    (at-if1 .if1 .left) _ (at-is-iri .is-iri .ensures) (at-if2 .if2 .left)) (at-put-reference .put-reference .ensures)
+    (at-put-reference .put-reference .kept .1 .1 .0) (c .if3 .left)
 
 pub resolve-reference-spec : {M : Type 1} → statement M
 resolve-reference-spec =
     tie.close
     (tie.spec
-    is-package-iri-requires
-    returns
-    is-iri-requires
-    returns-2
-    put-reference-requires
-    same-length
-    returns-3
-    same-length-2
+    (λ c κs. search needs) returns (λ c κs. search needs) returns-2 put-reference-requires (λ c. search needs) returns-3 (λ c. search needs)
     returns-4)

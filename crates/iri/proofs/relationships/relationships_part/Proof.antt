@@ -8,47 +8,54 @@ use Rattle.iri.proofs.Sources.{rels-no, rels-text}
 use Rattle.iri.proofs.relationships.relationships_part.Statement.{statement}
 use Rattle.iri.proofs.relationships.relationships_part.Tie as tie
 
-source-refusal-requires : tie.Need-source-refusal-requires
-source-refusal-requires c κs = search needs
-
 returns : tie.Need-returns
-returns c = answer-refused (relationshipsPart (c .before .before .before .before .args .s .now)) _ (c .before .before .before .before .args .out .now) (c .if1 .taken) (rels-no _ _ (c .before .source-refusal .ensures) (c .if1 .taken))
-
-slice-relend-prefix-put-relationships : tie.Need-slice-relend-prefix-put-relationships
-slice-relend-prefix-put-relationships c = search needs
-
-slice-aggregate-put-relationships : tie.Need-slice-aggregate-put-relationships
-slice-aggregate-put-relationships c = search needs
+returns c =
+    let at-source-refusal = c .before in
+    let args = at-source-refusal .before .before .before .args in
+    answer-refused (relationshipsPart (args .s .now)) _ (args .out .now) (c .if1 .taken)
+    (rels-no _ _ (at-source-refusal .source-refusal .ensures) (c .if1 .taken))
 
 put-relationships-requires : tie.Need-put-relationships-requires
-put-relationships-requires c κs = let l = source-few (c .before .before .before .before .before .args .s .now) (sym (c .before .before .source-refusal .ensures) ∙ c .before .if1 .left) in omega arith
-
-same-length : tie.Need-same-length
-same-length c = search needs
+put-relationships-requires c κs =
+    let at-if1 = c .before in
+    let at-source-refusal = at-if1 .before in
+    let at-args = at-source-refusal .before .before .before in
+    let l = source-few (at-args .args .s .now) (sym (at-source-refusal .source-refusal .ensures) ∙ at-if1 .if1 .left) in
+    omega arith
 
 returns-2 : tie.Need-returns-2
-returns-2 c = dry-short (relationshipsPart (c .before .before .before .before .before .before .before .before .before .args .s .now)) (relationshipsOf (c .before .before .before .before .before .before .before .before .before .args .s .now)) _ _ (c .before .before .before .before .before .before .before .before .before .args .out .now) _ (rels-text _ _ (c .before .before .before .before .before .before .source-refusal .ensures) (c .before .before .before .before .before .if1 .left)) (c .before .before .before .put-relationships .ensures) (c .before .before .before .put-relationships .kept .1 .0) (c .if2 .taken)
+returns-2 c =
+    let at-put-relationships = c .before .before .before in
+    let at-if1 = at-put-relationships .before .before in
+    let at-source-refusal = at-if1 .before in
+    let args = at-source-refusal .before .before .before .args in
+    dry-short (relationshipsPart (args .s .now)) (relationshipsOf (args .s .now)) _ _ (args .out .now) _
+    (rels-text _ _ (at-source-refusal .source-refusal .ensures) (at-if1 .if1 .left)) (at-put-relationships .put-relationships .ensures)
+    (at-put-relationships .put-relationships .kept .1 .0) (c .if2 .taken)
 
 put-relationships-requires-2 : tie.Need-put-relationships-requires-2
-put-relationships-requires-2 c κs = let l = source-few (c .before .before .before .before .before .before .before .before .before .before .args .s .now) (sym (c .before .before .before .before .before .before .before .source-refusal .ensures) ∙ c .before .before .before .before .before .before .if1 .left) in omega arith
-
-same-length-2 : tie.Need-same-length-2
-same-length-2 c = search needs
+put-relationships-requires-2 c κs =
+    let at-if1 = c .before .before .before .before .before .before in
+    let at-source-refusal = at-if1 .before in
+    let at-args = at-source-refusal .before .before .before in
+    let l = source-few (at-args .args .s .now) (sym (at-source-refusal .source-refusal .ensures) ∙ at-if1 .if1 .left) in
+    omega arith
 
 returns-3 : tie.Need-returns-3
-returns-3 c = dry-bytes (relationshipsPart (c .before .before .before .before .before .before .before .before .before .before .before .before .before .args .s .now)) (relationshipsOf (c .before .before .before .before .before .before .before .before .before .before .before .before .before .args .s .now)) _ _ (c .before .before .before .before .before .before .before .before .before .before .before .before .before .args .out .now) _ (rels-text _ _ (c .before .before .before .before .before .before .before .before .before .before .source-refusal .ensures) (c .before .before .before .before .before .before .before .before .before .if1 .left)) (c .before .before .before .before .before .before .before .put-relationships .ensures) (c .before .before .before .before .before .before .before .put-relationships .kept .1 .0) _ _ (c .before .before .before .before .if2 .left) (c .before .before .put-relationships2 .ensures)
+returns-3 c =
+    let at-put-relationships2 = c .before .before in
+    let at-if2 = at-put-relationships2 .before .before in
+    let at-put-relationships = at-if2 .before .before .before in
+    let at-if1 = at-put-relationships .before .before in
+    let at-source-refusal = at-if1 .before in
+    let args = at-source-refusal .before .before .before .args in
+    dry-bytes (relationshipsPart (args .s .now)) (relationshipsOf (args .s .now)) _ _ (args .out .now) _
+    (rels-text _ _ (at-source-refusal .source-refusal .ensures) (at-if1 .if1 .left)) (at-put-relationships .put-relationships .ensures)
+    (at-put-relationships .put-relationships .kept .1 .0) _ _ (at-if2 .if2 .left) (at-put-relationships2 .put-relationships2 .ensures)
 
 pub relationships-part-spec : {M : Type 1} → statement M
 relationships-part-spec =
     tie.close
     (tie.spec
-    source-refusal-requires
-    returns
-    slice-relend-prefix-put-relationships
-    slice-aggregate-put-relationships
-    put-relationships-requires
-    same-length
-    returns-2
-    put-relationships-requires-2
-    same-length-2
-    returns-3)
+    (λ c κs. search needs) returns (λ c. search needs) (λ c. search needs) put-relationships-requires (λ c. search needs) returns-2
+    put-relationships-requires-2 (λ c. search needs) returns-3)

@@ -9,24 +9,27 @@ use Rattle.iri.proofs.relationships.source_of.Statement.{statement}
 use Rattle.iri.proofs.relationships.source_of.Tie as tie
 
 returns : tie.Need-returns
-returns c = answer-refused (sourcePart (c .before .before .before .args .s .now)) 4 (c .before .before .before .args .out .now) (omega arith) (back-long (c .before .before .before .args .s .now) (c .if1 .taken))
-
-is-reserved-requires : tie.Need-is-reserved-requires
-is-reserved-requires c κs = search needs
+returns c =
+    let at-args = c .before .before .before in
+    answer-refused (sourcePart (at-args .args .s .now)) 4 (at-args .args .out .now) (omega arith)
+    (back-long (at-args .args .s .now) (c .if1 .taken))
 
 returns-2 : tie.Need-returns-2
-returns-2 c = answer-refused (sourcePart (c .before .before .before .before .before .args .s .now)) 4 (c .before .before .before .before .before .args .out .now) (omega arith) (back-no (c .before .before .before .before .before .args .s .now) _ (c .before .is-reserved .ensures) (c .if2 .taken))
+returns-2 c =
+    let at-is-reserved = c .before in
+    let at-args = at-is-reserved .before .before .before .before in
+    answer-refused (sourcePart (at-args .args .s .now)) 4 (at-args .args .out .now) (omega arith)
+    (back-no (at-args .args .s .now) _ (at-is-reserved .is-reserved .ensures) (c .if2 .taken))
 
 source-at-requires : tie.Need-source-at-requires
-source-at-requires c κs = (sym (c .before .before .is-reserved .ensures) ∙ not-false _ (c .before .if2 .left), c .before .before .before .if1 .left)
-
-same-length : tie.Need-same-length
-same-length c = search needs
-
-returns-3 : tie.Need-returns-3
-returns-3 c = search needs
+source-at-requires c κs =
+    let at-if2 = c .before in
+    let at-is-reserved = at-if2 .before in
+    let if1 = at-is-reserved .before .if1 in
+    (sym (at-is-reserved .is-reserved .ensures) ∙ not-false _ (at-if2 .if2 .left), if1 .left)
 
 pub source-of-spec : {M : Type 1} → statement M
 source-of-spec =
     tie.close
-    (tie.spec returns is-reserved-requires returns-2 source-at-requires same-length returns-3)
+    (tie.spec
+    returns (λ c κs. search needs) returns-2 source-at-requires (λ c. search needs) (λ c. search needs))

@@ -8,56 +8,59 @@ use Rattle.iri.proofs.Sending.{answer-refused}
 use Rattle.iri.proofs.targets.resolve_target.Statement.{statement}
 use Rattle.iri.proofs.targets.resolve_target.Tie as tie
 
-source-refusal-requires : tie.Need-source-refusal-requires
-source-refusal-requires c κs = search needs
-
 returns : tie.Need-returns
-returns c = answer-refused (resolveTarget (c .before .before .before .before .before .args .source .now) (c .before .before .before .before .before .args .target .now)) _ (c .before .before .before .before .before .args .out .now) (c .if1 .taken) (target-source (c .before .before .before .before .before .args .source .now) (c .before .before .before .before .before .args .target .now) _ (c .before .source-refusal .ensures) (c .if1 .taken))
-
-slice-aggregate-resolve-name : tie.Need-slice-aggregate-resolve-name
-slice-aggregate-resolve-name c = search needs
+returns c =
+    let at-source-refusal = c .before in
+    let args = at-source-refusal .before .before .before .before .args in
+    answer-refused (resolveTarget (args .source .now) (args .target .now)) _ (args .out .now) (c .if1 .taken)
+    (target-source (args .source .now) (args .target .now) _ (at-source-refusal .source-refusal .ensures) (c .if1 .taken))
 
 resolve-name-requires : tie.Need-resolve-name-requires
-resolve-name-requires c κs = (source-few (c .before .before .before .before .before .before .args .source .now) (sym (c .before .before .source-refusal .ensures) ∙ c .before .if1 .left), omega arith)
-
-enum-known-n : tie.Need-enum-known-n
-enum-known-n c = search needs
-
-slice-aggregate-put-text : tie.Need-slice-aggregate-put-text
-slice-aggregate-put-text c = search needs
+resolve-name-requires c κs =
+    let at-if1 = c .before in
+    let at-source-refusal = at-if1 .before in
+    let at-args = at-source-refusal .before .before .before .before in
+    (source-few (at-args .args .source .now) (sym (at-source-refusal .source-refusal .ensures) ∙ at-if1 .if1 .left), omega arith)
 
 put-text-requires : tie.Need-put-text-requires
-put-text-requires c κs = let l = named-le (c .before .before .before .before .before .before .before .before .before .before .before .before .before .args .source .now) (c .before .before .before .before .before .before .before .before .before .before .before .before .before .args .target .now) _ _ (named-length (c .before .before .before .before .before .before .before .before .before .before .before .before .before .args .source .now) (c .before .before .before .before .before .before .before .before .before .before .before .before .before .args .target .now) _ _ (c .before .before .before .before .before .before .resolve-name .ensures) _ (c .before .before .before .n .given .1)) in (l, omega (arith, c .before .before .before .before .before .before .resolve-name .kept .1 .1 .0))
-
-enum-known-n-2 : tie.Need-enum-known-n-2
-enum-known-n-2 c = search needs
-
-same-length : tie.Need-same-length
-same-length c = search needs
+put-text-requires c κs =
+    let at-n = c .before .before .before in
+    let at-resolve-name = at-n .before .before .before in
+    let at-args = at-resolve-name .before .before .before .before .before .before .before in
+    let l = named-le (at-args .args .source .now) (at-args .args .target .now) _ _
+    (named-length (at-args .args .source .now) (at-args .args .target .now) _ _ (at-resolve-name .resolve-name .ensures) _
+    (at-n .n .given .1)) in
+    (l, omega (arith, at-resolve-name .resolve-name .kept .1 .1 .0))
 
 returns-2 : tie.Need-returns-2
-returns-2 c = c .before .before .put-text .ensures ∙ ap (λ (o : Outcome). written o (c .before .before .before .before .before .before .before .before .before .before .before .before .before .before .before .before .args .out .now)) (sym (target-text (c .before .before .before .before .before .before .before .before .before .before .before .before .before .before .before .before .args .source .now) (c .before .before .before .before .before .before .before .before .before .before .before .before .before .before .before .before .args .target .now) (sym (c .before .before .before .before .before .before .before .before .before .before .before .before .source-refusal .ensures) ∙ c .before .before .before .before .before .before .before .before .before .before .before .if1 .left) ((named-length (c .before .before .before .before .before .before .before .before .before .before .before .before .before .before .before .before .args .source .now) (c .before .before .before .before .before .before .before .before .before .before .before .before .before .before .before .before .args .target .now) _ _ (c .before .before .before .before .before .before .before .before .before .resolve-name .ensures) _ (c .before .before .before .before .before .before .n .given .1)) .0) ∙ ap Text (sym ((named-length (c .before .before .before .before .before .before .before .before .before .before .before .before .before .before .before .before .args .source .now) (c .before .before .before .before .before .before .before .before .before .before .before .before .before .before .before .before .args .target .now) _ _ (c .before .before .before .before .before .before .before .before .before .resolve-name .ensures) _ (c .before .before .before .before .before .before .n .given .1)) .1))))
+returns-2 c =
+    let at-put-text = c .before .before in
+    let at-n = at-put-text .before .before .before .before in
+    let at-resolve-name = at-n .before .before .before in
+    let at-if1 = at-resolve-name .before .before in
+    let at-source-refusal = at-if1 .before in
+    let args = at-source-refusal .before .before .before .before .args in
+    at-put-text .put-text .ensures ∙ ap (λ (o : Outcome). written o (args .out .now))
+    (sym (target-text (args .source .now) (args .target .now) (sym (at-source-refusal .source-refusal .ensures) ∙ at-if1 .if1 .left)
+    ((named-length (args .source .now) (args .target .now) _ _ (at-resolve-name .resolve-name .ensures) _ (at-n .n .given .1)) .0) ∙ ap Text
+    (sym ((named-length (args .source .now) (args .target .now) _ _ (at-resolve-name .resolve-name .ensures) _ (at-n .n .given .1)) .1))))
 
 returns-3 : tie.Need-returns-3
 returns-3 c =
-    let source = c .before .before .before .before .before .before .before .before .before .before .before .args .source .now in
-    let target = c .before .before .before .before .before .before .before .before .before .before .before .args .target .now in
-    let refused = named-refused source target _ _ (c .before .before .before .before .resolve-name .ensures) _ (c .before .n2 .given .1) in
-    answer-refused (resolveTarget source target) _ (c .before .before .before .before .before .before .before .before .before .before .before .args .out .now) (refused .1)
-    (target-refused source target (sym (c .before .before .before .before .before .before .before .source-refusal .ensures) ∙ c .before .before .before .before .before .before .if1 .left) _ (refused .0) (refused .1))
+    let at-n2 = c .before in
+    let at-resolve-name = at-n2 .before .before .before in
+    let at-if1 = at-resolve-name .before .before in
+    let at-source-refusal = at-if1 .before in
+    let args = at-source-refusal .before .before .before .before .args in
+    let source = args .source .now in
+    let target = args .target .now in
+    let refused = named-refused source target _ _ (at-resolve-name .resolve-name .ensures) _ (at-n2 .n2 .given .1) in
+    answer-refused (resolveTarget source target) _ (args .out .now) (refused .1)
+    (target-refused source target (sym (at-source-refusal .source-refusal .ensures) ∙ at-if1 .if1 .left) _ (refused .0) (refused .1))
 
 pub resolve-target-spec : {M : Type 1} → statement M
 resolve-target-spec =
     tie.close
     (tie.spec
-    source-refusal-requires
-    returns
-    slice-aggregate-resolve-name
-    resolve-name-requires
-    enum-known-n
-    slice-aggregate-put-text
-    put-text-requires
-    enum-known-n-2
-    same-length
-    returns-2
-    returns-3)
+    (λ c κs. search needs) returns (λ c. search needs) resolve-name-requires (λ c. search needs) (λ c. search needs) put-text-requires
+    (λ c. search needs) (λ c. search needs) returns-2 returns-3)

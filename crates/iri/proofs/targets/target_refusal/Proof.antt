@@ -5,46 +5,50 @@ use Rattle.iri.proofs.targets.target_refusal.Statement.{statement}
 use Rattle.iri.proofs.targets.target_refusal.Tie as tie
 
 returns : tie.Need-returns
-returns c = sym (refusal-long (c .before .before .before .args .mode) (c .before .before .before .args .source .now) (c .before .before .before .args .target .now) (c .if1 .taken))
-
-is-iri-requires : tie.Need-is-iri-requires
-is-iri-requires c κs = search needs
+returns c =
+    let args = c .before .before .before .args in
+    sym (refusal-long (args .mode) (args .source .now) (args .target .now) (c .if1 .taken))
 
 returns-2 : tie.Need-returns-2
-returns-2 c = sym (refusal-none (c .before .before .before .before .before .before .args .mode) (c .before .before .before .before .before .before .args .source .now) (c .before .before .before .before .before .before .args .target .now) (c .before .before .before .if1 .left) (c .before .before .if2 .taken) _ (c .before .is-iri .ensures) (c .if3 .taken))
+returns-2 c =
+    let at-is-iri = c .before in
+    let at-if2 = at-is-iri .before in
+    let at-if1 = at-if2 .before in
+    let args = at-if1 .before .before .before .args in
+    sym (refusal-none (args .mode) (args .source .now) (args .target .now) (at-if1 .if1 .left) (at-if2 .if2 .taken) _
+    (at-is-iri .is-iri .ensures) (c .if3 .taken))
 
 returns-3 : tie.Need-returns-3
-returns-3 c = sym (refusal-9 (c .before .before .before .before .before .before .args .mode) (c .before .before .before .before .before .before .args .source .now) (c .before .before .before .before .before .before .args .target .now) (c .before .before .before .if1 .left) (c .before .before .if2 .taken) _ (c .before .is-iri .ensures) (c .if3 .left))
-
-slice-aggregate-resolve-name : tie.Need-slice-aggregate-resolve-name
-slice-aggregate-resolve-name c = search needs
-
-resolve-name-requires : tie.Need-resolve-name-requires
-resolve-name-requires c κs = search needs
-
-enum-told : tie.Need-enum-told
-enum-told c = search needs
-
-enum-known-n : tie.Need-enum-known-n
-enum-known-n c = search needs
+returns-3 c =
+    let at-is-iri = c .before in
+    let at-if2 = at-is-iri .before in
+    let at-if1 = at-if2 .before in
+    let args = at-if1 .before .before .before .args in
+    sym (refusal-9 (args .mode) (args .source .now) (args .target .now) (at-if1 .if1 .left) (at-if2 .if2 .taken) _
+    (at-is-iri .is-iri .ensures) (c .if3 .left))
 
 returns-4 : tie.Need-returns-4
-returns-4 c = sym (refusal-internal (c .before .before .before .before .before .before .before .before .before .args .mode) (c .before .before .before .before .before .before .before .before .before .args .source .now) (c .before .before .before .before .before .before .before .before .before .args .target .now) (c .before .before .before .before .before .before .if1 .left) (c .before .before .before .before .before .if2 .left) ∙ (named-length (c .before .before .before .before .before .before .before .before .before .args .source .now) (c .before .before .before .before .before .before .before .before .before .args .target .now) _ _ (c .before .before .before .resolve-name .ensures) _ (c .enum-told .given .1)) .0)
+returns-4 c =
+    let at-resolve-name = c .before .before .before in
+    let at-if2 = at-resolve-name .before .before in
+    let at-if1 = at-if2 .before in
+    let args = at-if1 .before .before .before .args in
+    sym (refusal-internal (args .mode) (args .source .now) (args .target .now) (at-if1 .if1 .left) (at-if2 .if2 .left) ∙
+    (named-length (args .source .now) (args .target .now) _ _ (at-resolve-name .resolve-name .ensures) _ (c .enum-told .given .1)) .0)
 
 returns-5 : tie.Need-returns-5
-returns-5 c = sym (refusal-internal (c .before .before .before .before .before .before .before .before .before .before .args .mode) (c .before .before .before .before .before .before .before .before .before .before .args .source .now) (c .before .before .before .before .before .before .before .before .before .before .args .target .now) (c .before .before .before .before .before .before .before .if1 .left) (c .before .before .before .before .before .before .if2 .left) ∙ (named-refused (c .before .before .before .before .before .before .before .before .before .before .args .source .now) (c .before .before .before .before .before .before .before .before .before .before .args .target .now) _ _ (c .before .before .before .before .resolve-name .ensures) _ (c .before .n .given .1)) .0)
+returns-5 c =
+    let at-n = c .before in
+    let at-resolve-name = at-n .before .before .before in
+    let at-if2 = at-resolve-name .before .before in
+    let at-if1 = at-if2 .before in
+    let args = at-if1 .before .before .before .args in
+    sym (refusal-internal (args .mode) (args .source .now) (args .target .now) (at-if1 .if1 .left) (at-if2 .if2 .left) ∙
+    (named-refused (args .source .now) (args .target .now) _ _ (at-resolve-name .resolve-name .ensures) _ (at-n .n .given .1)) .0)
 
 pub target-refusal-spec : {M : Type 1} → statement M
 target-refusal-spec =
     tie.close
     (tie.spec
-    returns
-    is-iri-requires
-    returns-2
-    returns-3
-    slice-aggregate-resolve-name
-    resolve-name-requires
-    enum-told
-    enum-known-n
-    returns-4
-    returns-5)
+    returns (λ c κs. search needs) returns-2 returns-3 (λ c. search needs) (λ c κs. search needs) (λ c. search needs) (λ c. search needs)
+    returns-4 returns-5)

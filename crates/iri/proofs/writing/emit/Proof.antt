@@ -15,55 +15,24 @@ Inv-loop out₀ at bytes next i₀ out i = (i ≤ length bytes) × (length out �
 abbrev μ-loop : tie.MeasureT-loop
 μ-loop out₀ at bytes next i₀ out i = length bytes - i
 
-add-next : tie.Need-add-next Inv-loop μ-loop
-add-next c = search needs
-
 loop-holds : tie.Need-loop-holds Inv-loop μ-loop
-loop-holds c = let a = c .before .args in (search needs, refl, paste-zero (now (a .out)) (a .at) (now (a .bytes)))
-
-shared-slice-read-out : tie.Need-shared-slice-read-out Inv-loop μ-loop
-shared-slice-read-out c = search needs
-
-add-out : tie.Need-add-out Inv-loop μ-loop
-add-out c = search needs
-
-slice-write-out : tie.Need-slice-write-out Inv-loop μ-loop
-slice-write-out c = search needs
-
-add-i : tie.Need-add-i Inv-loop μ-loop
-add-i c = search needs
-
-loop-less : tie.Need-loop-less Inv-loop μ-loop
-loop-less c = search needs
+loop-holds c =
+    let a = c .before .args in
+    (search needs, refl, paste-zero (now (a .out)) (a .at) (now (a .bytes)))
 
 loop-again : tie.Need-loop-again Inv-loop μ-loop
 loop-again c =
     let w = c .before .before .loop in
     (search needs, simp length-set (omega arith), sent-turn _ _ _ (w .out) (w .i) (w .inv .2) (search needs) (search needs))
 
-same-length : tie.Need-same-length Inv-loop μ-loop
-same-length c = search needs
-
 returns : tie.Need-returns Inv-loop μ-loop
-returns c = let w = c .before .loop in sent-all _ _ _ (w .out) (w .i) (w .inv .2) (search needs) (search needs)
-
-returns-2 : tie.Need-returns-2 Inv-loop μ-loop
-returns-2 c = sent-nothing _ _ _ (c .if1 .left)
+returns c =
+    let w = c .before .loop in
+    sent-all _ _ _ (w .out) (w .i) (w .inv .2) (search needs) (search needs)
 
 pub emit-spec : {M : Type 1} → statement M
 emit-spec =
     tie.close
     (tie.spec
-    Inv-loop
-    μ-loop
-    add-next
-    loop-holds
-    shared-slice-read-out
-    add-out
-    slice-write-out
-    add-i
-    loop-less
-    loop-again
-    same-length
-    returns
-    returns-2)
+    Inv-loop μ-loop (λ c. search needs) loop-holds (λ c. search needs) (λ c. search needs) (λ c. search needs) (λ c. search needs)
+    (λ c. search needs) loop-again (λ c. search needs) returns (λ c. sent-nothing _ _ _ (c .if1 .left)))

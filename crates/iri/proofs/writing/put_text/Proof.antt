@@ -8,20 +8,28 @@ use Rattle.iri.proofs.writing.put_text.Statement.{statement}
 use Rattle.iri.proofs.writing.put_text.Tie as tie
 
 returns : tie.Need-returns
-returns c = put-short (c .before .before .before .args .text .now) (c .before .before .before .args .out .now) _ (c .before .before .before .pre .0) (c .if1 .taken)
+returns c =
+    let at-args = c .before .before .before in
+    put-short (at-args .args .text .now) (at-args .args .out .now) _ (at-args .pre .0) (c .if1 .taken)
 
 slice-aggregate-emit : tie.Need-slice-aggregate-emit
-slice-aggregate-emit c = sym (length-take-le _ _ (c .before .before .before .before .before .pre .0))
+slice-aggregate-emit c =
+    let at-pre = c .before .before .before .before .before in
+    sym (length-take-le _ _ (at-pre .pre .0))
 
 emit-requires : tie.Need-emit-requires
-emit-requires c κs = (omega arith, omega (arith, length-take-few (c .before .before .before .before .before .args .n) (c .before .before .before .before .before .args .text .now), c .before .before .before .before .before .pre .1))
-
-same-length : tie.Need-same-length
-same-length c = search needs
+emit-requires c κs =
+    let at-args = c .before .before .before .before .before in
+    (omega arith, omega (arith, length-take-few (at-args .args .n) (at-args .args .text .now), at-args .pre .1))
 
 returns-2 : tie.Need-returns-2
-returns-2 c = put-bytes (c .before .before .before .before .before .before .before .before .args .text .now) (c .before .before .before .before .before .before .before .before .args .out .now) _ (c .before .before .before .before .before .before .before .before .pre .0) _ _ (c .before .before .before .before .before .if1 .left) (c .before .before .emit .ensures)
+returns-2 c =
+    let at-emit = c .before .before in
+    let at-if1 = at-emit .before .before .before in
+    let at-args = at-if1 .before .before .before in
+    put-bytes (at-args .args .text .now) (at-args .args .out .now) _ (at-args .pre .0) _ _ (at-if1 .if1 .left) (at-emit .emit .ensures)
 
 pub put-text-spec : {M : Type 1} → statement M
 put-text-spec =
-    tie.close (tie.spec returns slice-aggregate-emit emit-requires same-length returns-2)
+    tie.close (tie.spec
+    returns slice-aggregate-emit emit-requires (λ c. search needs) returns-2)

@@ -12,26 +12,28 @@ Inv-loop pkg n p i₀ i = GrownFrom pkg n p i
 abbrev μ-loop : tie.MeasureT-loop
 μ-loop pkg n p i₀ i = n - i
 
-loop-holds : tie.Need-loop-holds Inv-loop μ-loop
-loop-holds c = grown-all _ _ _
-
-field-requires : tie.Need-field-requires Inv-loop μ-loop
-field-requires c κs = search needs
-
-is-grown-requires : tie.Need-is-grown-requires Inv-loop μ-loop
-is-grown-requires c κs = search needs
-
 returns : tie.Need-returns Inv-loop μ-loop
-returns c = grown-yes _ _ _ _ (c .before .before .before .before .loop .inv) (c .before .before .before .loop-test .taken) (c .before .before .before .before .before .before .before .pre) _ (c .before .before .field .ensures .2) _ (c .before .is-grown .ensures) (c .if1 .taken)
+returns c =
+    let at-is-grown = c .before in
+    let at-field = at-is-grown .before in
+    let at-loop-test = at-field .before in
+    let at-loop = at-loop-test .before in
+    let at-pre = at-loop .before .before .before in
+    grown-yes _ _ _ _ (at-loop .loop .inv) (at-loop-test .loop-test .taken) (at-pre .pre) _ (at-field .field .ensures .2) _
+    (at-is-grown .is-grown .ensures) (c .if1 .taken)
 
 add-i : tie.Need-add-i Inv-loop μ-loop
 add-i c = omega (arith, c .before .before .before .loop-test .taken)
 
-loop-less : tie.Need-loop-less Inv-loop μ-loop
-loop-less c = omega arith
-
 loop-again : tie.Need-loop-again Inv-loop μ-loop
-loop-again c = grown-next _ _ _ _ (c .before .before .before .before .loop .inv) (c .before .before .before .loop-test .taken) (c .before .before .before .before .before .before .before .pre) _ (c .before .before .field .ensures .2) _ (c .before .is-grown .ensures) (c .if1 .left)
+loop-again c =
+    let at-is-grown = c .before in
+    let at-field = at-is-grown .before in
+    let at-loop-test = at-field .before in
+    let at-loop = at-loop-test .before in
+    let at-pre = at-loop .before .before .before in
+    grown-next _ _ _ _ (at-loop .loop .inv) (at-loop-test .loop-test .taken) (at-pre .pre) _ (at-field .field .ensures .2) _
+    (at-is-grown .is-grown .ensures) (c .if1 .left)
 
 returns-2 : tie.Need-returns-2 Inv-loop μ-loop
 returns-2 c = grown-none _ _ _ _ (c .before .loop .inv) (c .loop-test .left)
@@ -40,13 +42,5 @@ pub has-grown-spec : {M : Type 1} → statement M
 has-grown-spec =
     tie.close
     (tie.spec
-    Inv-loop
-    μ-loop
-    loop-holds
-    field-requires
-    is-grown-requires
-    returns
-    add-i
-    loop-less
-    loop-again
+    Inv-loop μ-loop (λ c. grown-all _ _ _) (λ c κs. search needs) (λ c κs. search needs) returns add-i (λ c. omega arith) loop-again
     returns-2)

@@ -9,14 +9,17 @@ use Rattle.items.proofs.clashes.is_longer.Tie as tie
 slice-aggregate-is-equivalent : tie.Need-slice-aggregate-is-equivalent
 slice-aggregate-is-equivalent c = sym (length-take-le _ (c .before .before .before .before .args .q .now) (omega arith))
 
-is-equivalent-requires : tie.Need-is-equivalent-requires
-is-equivalent-requires c κs = search needs
-
 returns : tie.Need-returns
-returns c = extends-long (c .before .before .before .before .before .args .q .now) (c .before .before .before .before .before .args .p .now) (c .before .before .if1 .taken) _ (c .is-equivalent .ensures)
+returns c =
+    let at-if1 = c .before .before in
+    let args = at-if1 .before .before .before .args in
+    extends-long (args .q .now) (args .p .now) (at-if1 .if1 .taken) _ (c .is-equivalent .ensures)
 
 returns-2 : tie.Need-returns-2
-returns-2 c = extends-short (c .before .before .before .args .q .now) (c .before .before .before .args .p .now) (c .if1 .left)
+returns-2 c =
+    let args = c .before .before .before .args in
+    extends-short (args .q .now) (args .p .now) (c .if1 .left)
 
 pub is-longer-spec : {M : Type 1} → statement M
-is-longer-spec = tie.close (tie.spec slice-aggregate-is-equivalent is-equivalent-requires returns returns-2)
+is-longer-spec = tie.close (tie.spec
+    slice-aggregate-is-equivalent (λ c κs. search needs) returns returns-2)

@@ -3,25 +3,16 @@ use borrow.Author.Needs.{needs}
 use Rattle.items.proofs.clashes.is_parted.Statement.{statement}
 use Rattle.items.proofs.clashes.is_parted.Tie as tie
 
-returns : tie.Need-returns
-returns c = parted-none _ _ _ (c .if1 .taken)
-
-sub-field : tie.Need-sub-field
-sub-field c = search needs
-
-field-requires : tie.Need-field-requires
-field-requires c κs = search needs
-
-common-start-requires : tie.Need-common-start-requires
-common-start-requires c κs = search needs
-
-byte-at-requires : tie.Need-byte-at-requires
-byte-at-requires c κs = search needs
-
 returns-2 : tie.Need-returns-2
-returns-2 c = parted-some _ _ _ (c .before .before .before .if1 .left) _ (c .before .before .field .ensures .2) _ (c .before .common-start .ensures .0) _ (c .byte-at .ensures)
+returns-2 c =
+    let at-common-start = c .before in
+    let at-field = at-common-start .before in
+    let if1 = at-field .before .if1 in
+    parted-some _ _ _ (if1 .left) _ (at-field .field .ensures .2) _ (at-common-start .common-start .ensures .0) _ (c .byte-at .ensures)
 
 pub is-parted-spec : {M : Type 1} → statement M
 is-parted-spec =
     tie.close
-    (tie.spec returns sub-field field-requires common-start-requires byte-at-requires returns-2)
+    (tie.spec
+    (λ c. parted-none _ _ _ (c .if1 .taken)) (λ c. search needs) (λ c κs. search needs) (λ c κs. search needs) (λ c κs. search needs)
+    returns-2)

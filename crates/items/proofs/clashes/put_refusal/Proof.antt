@@ -5,51 +5,73 @@ use borrow.Author.Needs.{needs}
 use Rattle.items.proofs.clashes.put_refusal.Statement.{statement}
 use Rattle.items.proofs.clashes.put_refusal.Tie as tie
 
-item-count-requires : tie.Need-item-count-requires
-item-count-requires c κs = search needs
-
-clash-of-requires : tie.Need-clash-of-requires
-clash-of-requires c κs = search needs
-
 returns : tie.Need-returns
-returns c = cleared-clash _ _ _ _ (c .before .before .before .before .before .pre .1 .0 .2) _ (c .before .clash-of .ensures) (c .if1 .taken)
+returns c =
+    let at-clash-of = c .before in
+    let at-pre = at-clash-of .before .before .before .before in
+    cleared-clash _ _ _ _ (at-pre .pre .1 .0 .2) _ (at-clash-of .clash-of .ensures) (c .if1 .taken)
 
 returns-2 : tie.Need-returns-2
-returns-2 c = cleared-many _ _ _ _ (c .before .before .before .before .before .before .pre .1 .0 .2) _ (c .before .before .clash-of .ensures) (c .before .if1 .left) _ (c .before .before .before .item-count .ensures) (c .if2 .taken)
-
-count-requires : tie.Need-count-requires
-count-requires c κs = search needs
+returns-2 c =
+    let at-if1 = c .before in
+    let at-clash-of = at-if1 .before in
+    let at-item-count = at-clash-of .before in
+    let at-pre = at-item-count .before .before .before in
+    cleared-many _ _ _ _ (at-pre .pre .1 .0 .2) _ (at-clash-of .clash-of .ensures) (at-if1 .if1 .left) _
+    (at-item-count .item-count .ensures) (c .if2 .taken)
 
 returns-3 : tie.Need-returns-3
-returns-3 c = cleared-slots _ _ _ _ (c .before .before .before .before .before .before .before .before .pre .1 .0 .2) _ (c .before .before .before .before .clash-of .ensures) (c .before .before .before .if1 .left) _ (c .before .before .before .before .before .item-count .ensures) (c .before .before .if2 .left) _ (c .before .count .ensures .0) (c .if3 .taken)
-
-free-requires : tie.Need-free-requires
-free-requires c κs = search needs
+returns-3 c =
+    let at-count = c .before in
+    let at-if2 = at-count .before in
+    let at-if1 = at-if2 .before in
+    let at-clash-of = at-if1 .before in
+    let at-item-count = at-clash-of .before in
+    let at-pre = at-item-count .before .before .before in
+    cleared-slots _ _ _ _ (at-pre .pre .1 .0 .2) _ (at-clash-of .clash-of .ensures) (at-if1 .if1 .left) _
+    (at-item-count .item-count .ensures) (at-if2 .if2 .left) _ (at-count .count .ensures .0) (c .if3 .taken)
 
 returns-4 : tie.Need-returns-4
-returns-4 c = cleared-name _ _ _ _ (c .before .before .before .before .before .before .before .before .before .before .pre .1 .0 .2) _ (c .before .before .before .before .before .before .clash-of .ensures) (c .before .before .before .before .before .if1 .left) _ (c .before .before .before .before .before .before .before .item-count .ensures) (c .before .before .before .before .if2 .left) _ (c .before .free .ensures) (c .if4 .taken)
-
-sub-if5 : tie.Need-sub-if5
-sub-if5 c = search needs
+returns-4 c =
+    let at-free = c .before in
+    let at-if2 = at-free .before .before .before in
+    let at-if1 = at-if2 .before in
+    let at-clash-of = at-if1 .before in
+    let at-item-count = at-clash-of .before in
+    let at-pre = at-item-count .before .before .before in
+    cleared-name _ _ _ _ (at-pre .pre .1 .0 .2) _ (at-clash-of .clash-of .ensures) (at-if1 .if1 .left) _
+    (at-item-count .item-count .ensures) (at-if2 .if2 .left) _ (at-free .free .ensures) (c .if4 .taken)
 
 returns-5 : tie.Need-returns-5
-returns-5 c = cleared-bytes _ _ _ _ (c .before .before .before .before .before .before .before .before .before .before .before .pre .1 .0 .2) _ (c .before .before .before .before .before .before .before .clash-of .ensures) (c .before .before .before .before .before .before .if1 .left) _ (c .before .before .before .before .before .before .before .before .item-count .ensures) (c .before .before .before .before .before .if2 .left) _ (c .before .before .free .ensures) (c .before .if4 .left) (c .if5 .taken)
+returns-5 c =
+    let at-if4 = c .before in
+    let at-free = at-if4 .before in
+    let at-if2 = at-free .before .before .before in
+    let at-if1 = at-if2 .before in
+    let at-clash-of = at-if1 .before in
+    let at-item-count = at-clash-of .before in
+    let at-pre = at-item-count .before .before .before in
+    cleared-bytes _ _ _ _ (at-pre .pre .1 .0 .2) _ (at-clash-of .clash-of .ensures) (at-if1 .if1 .left) _
+    (at-item-count .item-count .ensures) (at-if2 .if2 .left) _ (at-free .free .ensures) (at-if4 .if4 .left) (c .if5 .taken)
 
 returns-6 : tie.Need-returns-6
-returns-6 c = cleared _ _ _ _ (c .before .before .before .before .before .before .before .before .before .before .before .pre .1 .0 .2) _ (c .before .before .before .before .before .before .before .clash-of .ensures) (c .before .before .before .before .before .before .if1 .left) _ (c .before .before .before .before .before .before .before .before .item-count .ensures) (c .before .before .before .before .before .if2 .left) _ (c .before .before .free .ensures) (take (c .before .before .before .before .before .before .before .before .before .before .before .args .n) (c .before .before .before .before .before .before .before .before .before .before .before .args .s .now)) (c .before .before .before .before .before .before .before .before .before .before .before .args .t) [] (c .before .before .before .before .before .before .before .before .before .before .before .pre .1 .1) _ (c .before .before .before .before .count .ensures .0) (c .before .before .before .if3 .left) (c .before .if4 .left) (c .if5 .left)
+returns-6 c =
+    let at-if4 = c .before in
+    let at-free = at-if4 .before in
+    let at-if3 = at-free .before in
+    let at-count = at-if3 .before in
+    let at-if2 = at-count .before in
+    let at-if1 = at-if2 .before in
+    let at-clash-of = at-if1 .before in
+    let at-item-count = at-clash-of .before in
+    let at-pre = at-item-count .before .before .before in
+    cleared _ _ _ _ (at-pre .pre .1 .0 .2) _ (at-clash-of .clash-of .ensures) (at-if1 .if1 .left) _ (at-item-count .item-count .ensures)
+    (at-if2 .if2 .left) _ (at-free .free .ensures) (take (at-pre .args .n) (at-pre .args .s .now)) (at-pre .args .t) [] (at-pre .pre .1 .1)
+    _ (at-count .count .ensures .0) (at-if3 .if3 .left) (at-if4 .if4 .left) (c .if5 .left)
 
 pub put-refusal-spec : {M : Type 1} → statement M
 put-refusal-spec =
     tie.close
     (tie.spec
-    item-count-requires
-    clash-of-requires
-    returns
-    returns-2
-    count-requires
-    returns-3
-    free-requires
-    returns-4
-    sub-if5
-    returns-5
-    returns-6)
+    (λ c κs. search needs) (λ c κs. search needs) returns returns-2 (λ c κs. search needs) returns-3 (λ c κs. search needs) returns-4
+    (λ c. search needs) returns-5 returns-6)

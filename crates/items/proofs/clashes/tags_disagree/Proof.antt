@@ -8,4 +8,5 @@ unfolding tagsDisagree
 returns c = refl
 
 pub tags-disagree-spec : {M : Type 1} → statement M
-tags-disagree-spec = tie.close (tie.spec returns)
+tags-disagree-spec = tie.close (tie.spec
+    returns)

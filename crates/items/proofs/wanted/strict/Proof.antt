@@ -3,47 +3,40 @@ use borrow.Author.Needs.{needs}
 use Rattle.items.proofs.wanted.strict.Statement.{statement}
 use Rattle.items.proofs.wanted.strict.Tie as tie
 
-take-apart-requires : tie.Need-take-apart-requires
-take-apart-requires c κs = search needs
-
-enum-known-split : tie.Need-enum-known-split
-enum-known-split c = search needs
-
-enum-told : tie.Need-enum-told
-enum-told c = search needs
-
-refusal-requires : tie.Need-refusal-requires
-refusal-requires c κs = search needs
-
 returns : tie.Need-returns
 returns c = strict-refused _ _ (c .before .before .before .take-apart .ensures) _ _ (c .before .enum-told .given .1) (c .refusal .ensures)
 
 slice-aggregate-is-reserved : tie.Need-slice-aggregate-is-reserved
-slice-aggregate-is-reserved c = named-slice _ _ (c .before .before .before .before .take-apart .ensures) _ _ (c .before .before .split .given .1)
-
-is-reserved-requires : tie.Need-is-reserved-requires
-is-reserved-requires c κs = search needs
+slice-aggregate-is-reserved c =
+    let at-split = c .before .before in
+    let take-apart = at-split .before .before .take-apart in
+    named-slice _ _ (take-apart .ensures) _ _ (at-split .split .given .1)
 
 returns-2 : tie.Need-returns-2
-returns-2 c = strict-reserved _ _ (c .before .before .before .before .before .before .take-apart .ensures) _ _ (c .before .before .before .before .split .given .1) _ (c .before .is-reserved .ensures) (c .if1 .taken)
+returns-2 c =
+    let at-is-reserved = c .before in
+    let at-split = at-is-reserved .before .before .before in
+    let take-apart = at-split .before .before .take-apart in
+    strict-reserved _ _ (take-apart .ensures) _ _ (at-split .split .given .1) _ (at-is-reserved .is-reserved .ensures) (c .if1 .taken)
 
 tag-of-requires : tie.Need-tag-of-requires
-tag-of-requires c κs = named-small _ _ (c .before .before .before .before .before .before .take-apart .ensures) _ _ (c .before .before .before .before .split .given .1)
+tag-of-requires c κs =
+    let at-split = c .before .before .before .before in
+    let take-apart = at-split .before .before .take-apart in
+    named-small _ _ (take-apart .ensures) _ _ (at-split .split .given .1)
 
 returns-3 : tie.Need-returns-3
-returns-3 c = strict-named _ _ (c .before .before .before .before .before .before .before .take-apart .ensures) _ _ (c .before .before .before .before .before .split .given .1) _ (c .before .before .is-reserved .ensures) _ (c .tag-of .ensures) (c .before .if1 .left)
+returns-3 c =
+    let at-if1 = c .before in
+    let at-is-reserved = at-if1 .before in
+    let at-split = at-is-reserved .before .before .before in
+    let take-apart = at-split .before .before .take-apart in
+    strict-named _ _ (take-apart .ensures) _ _ (at-split .split .given .1) _ (at-is-reserved .is-reserved .ensures) _ (c .tag-of .ensures)
+    (at-if1 .if1 .left)
 
 pub strict-spec : {M : Type 1} → statement M
 strict-spec =
     tie.close
     (tie.spec
-    take-apart-requires
-    enum-known-split
-    enum-told
-    refusal-requires
-    returns
-    slice-aggregate-is-reserved
-    is-reserved-requires
-    returns-2
-    tag-of-requires
-    returns-3)
+    (λ c κs. search needs) (λ c. search needs) (λ c. search needs) (λ c κs. search needs) returns slice-aggregate-is-reserved
+    (λ c κs. search needs) returns-2 tag-of-requires returns-3)

@@ -7,21 +7,21 @@ use borrow.Author.Needs.{needs}
 use Rattle.lines.proofs.printing.put_answer.Statement.{statement}
 use Rattle.lines.proofs.printing.put_answer.Tie as tie
 
-put-number-requires : tie.Need-put-number-requires
-put-number-requires c κs = search needs
-
-slice-aggregate-emit : tie.Need-slice-aggregate-emit
-slice-aggregate-emit c = search needs
-
 emit-requires : tie.Need-emit-requires
-emit-requires c κs = (omega (arith, number-next _ _ 0 3 (c .before .before .before .before .before .before .before .args .n) _ (omega arith) (c .before .before .before .before .put-number .ensures)), omega arith)
-
-same-length : tie.Need-same-length
-same-length c = search needs
+emit-requires c κs =
+    let at-put-number = c .before .before .before .before in
+    let at-args = at-put-number .before .before .before in
+    (omega (arith, number-next _ _ 0 3 (at-args .args .n) _ (omega arith) (at-put-number .put-number .ensures)), omega arith)
 
 returns : tie.Need-returns
-returns c = sent-more _ _ _ (column 3 (c .before .before .before .before .before .before .before .before .before .before .args .n)) (ascii "\n") 0 _ _ (c .before .before .before .before .before .before .before .put-number .ensures) (c .before .before .before .before .before .before .before .put-number .kept .0) (c .before .before .emit .ensures)
+returns c =
+    let at-emit = c .before .before in
+    let at-put-number = at-emit .before .before .before .before .before in
+    let args = at-put-number .before .before .before .args in
+    sent-more _ _ _ (column 3 (args .n)) (ascii "\n") 0 _ _ (at-put-number .put-number .ensures) (at-put-number .put-number .kept .0)
+    (at-emit .emit .ensures)
 
 pub put-answer-spec : {M : Type 1} → statement M
 put-answer-spec =
-    tie.close (tie.spec put-number-requires slice-aggregate-emit emit-requires same-length returns)
+    tie.close (tie.spec
+    (λ c κs. search needs) (λ c. search needs) emit-requires (λ c. search needs) returns)

@@ -4,39 +4,23 @@ use borrow.Author.Needs.{needs}
 use Rattle.lines.proofs.printing.put_number.Statement.{statement}
 use Rattle.lines.proofs.printing.put_number.Tie as tie
 
-sub-put-padded : tie.Need-sub-put-padded
-sub-put-padded c = search needs
-
-put-padded-requires : tie.Need-put-padded-requires
-put-padded-requires c κs = search needs
-
-cast-t11 : tie.Need-cast-t11
-cast-t11 c = search needs
-
-add-t12 : tie.Need-add-t12
-add-t12 c = search needs
-
-slice-aggregate-emit : tie.Need-slice-aggregate-emit
-slice-aggregate-emit c = search needs
-
 emit-requires : tie.Need-emit-requires
-emit-requires c κs = (padded-near _ _ _ (c .before .before .before .before .before .before .before .args .width) _ _ (c .before .before .before .before .put-padded .ensures) (c .before .before .before .before .before .before .before .pre .0) (c .before .before .before .before .before .before .before .pre .2), omega arith)
-
-same-length : tie.Need-same-length
-same-length c = search needs
+emit-requires c κs =
+    let at-put-padded = c .before .before .before .before in
+    let at-args = at-put-padded .before .before .before in
+    (padded-near _ _ _ (at-args .args .width) _ _ (at-put-padded .put-padded .ensures) (at-args .pre .0) (at-args .pre .2), omega arith)
 
 returns : tie.Need-returns
-returns c = sent-number _ _ _ _ (c .before .before .before .before .before .before .before .before .before .before .args .width) _ _ (c .before .before .before .before .before .before .before .before .before .before .pre .1) (c .before .before .before .before .before .before .before .put-padded .kept .0) (c .before .before .before .before .before .before .before .before .before .before .args .n) (c .before .before .before .before .before .before .before .put-padded .ensures) (c .before .before .emit .ensures)
+returns c =
+    let at-emit = c .before .before in
+    let at-put-padded = at-emit .before .before .before .before .before in
+    let at-args = at-put-padded .before .before .before in
+    sent-number _ _ _ _ (at-args .args .width) _ _ (at-args .pre .1) (at-put-padded .put-padded .kept .0) (at-args .args .n)
+    (at-put-padded .put-padded .ensures) (at-emit .emit .ensures)
 
 pub put-number-spec : {M : Type 1} → statement M
 put-number-spec =
     tie.close
     (tie.spec
-    sub-put-padded
-    put-padded-requires
-    cast-t11
-    add-t12
-    slice-aggregate-emit
-    emit-requires
-    same-length
+    (λ c. search needs) (λ c κs. search needs) (λ c. search needs) (λ c. search needs) (λ c. search needs) emit-requires (λ c. search needs)
     returns)

@@ -17,48 +17,27 @@ returns : tie.Need-returns
 unfolding iri
 returns c = rw (lt-leb _ _ (c .if1 .taken), and-false)
 
-table-requires : tie.Need-table-requires
-table-requires c κs = search needs
-
-first-by-requires : tie.Need-first-by-requires
-first-by-requires c κs = search needs
-
-all-units-requires : tie.Need-all-units-requires
-all-units-requires c κs = search needs
-
-after-requires : tie.Need-after-requires
-after-requires c κs = search needs
-
-has-no-requires : tie.Need-has-no-requires
-has-no-requires c κs = search needs
-
-byte-at-requires : tie.Need-byte-at-requires
-byte-at-requires c κs = search needs
-
 slice-aggregate-is-scheme : tie.Need-slice-aggregate-is-scheme
 slice-aggregate-is-scheme c =
-    let s = c .before .before .before .before .before .before .before .before .before .before .before .before .args .s .now in
-    sym (length-take-le _ s (omega (arith, c .before .before .before .before .before .before .before .first-by .ensures, first-le (member SchemeEnd) s)))
-
-is-scheme-requires : tie.Need-is-scheme-requires
-is-scheme-requires c κs = search needs
+    let at-first-by = c .before .before .before .before .before .before .before in
+    let at-args = at-first-by .before .before .before .before .before in
+    let s = at-args .args .s .now in
+    sym (length-take-le _ s (omega (arith, at-first-by .first-by .ensures, first-le (member SchemeEnd) s)))
 
 returns-2 : tie.Need-returns-2
 returns-2 c =
-    iri-is _ (c .before .before .before .before .before .before .before .before .first-by .result) _ _ _ _ (c .before .before .before .before .before .before .before .before .before .before .before .if1 .left) (c .before .before .before .before .before .before .before .before .first-by .ensures) (c .before .before .before .before .before .before .all-units .ensures)
-    (c .before .before .before .before .has-no .ensures ∙ ap (lacks numberSign) (c .before .before .before .before .before .after .ensures)) (c .before .before .before .byte-at .ensures) (c .is-scheme .ensures)
+    let at-byte-at = c .before .before .before in
+    let at-has-no = at-byte-at .before in
+    let at-after = at-has-no .before in
+    let at-all-units = at-after .before in
+    let at-first-by = at-all-units .before .before in
+    let if1 = at-first-by .before .before .before .if1 in
+    iri-is _ (at-first-by .first-by .result) _ _ _ _ (if1 .left) (at-first-by .first-by .ensures) (at-all-units .all-units .ensures)
+    (at-has-no .has-no .ensures ∙ ap (lacks numberSign) (at-after .after .ensures)) (at-byte-at .byte-at .ensures) (c .is-scheme .ensures)
 
 pub is-iri-spec : {M : Type 1} → statement M
 is-iri-spec =
     tie.close
     (tie.spec
-    returns
-    table-requires
-    first-by-requires
-    all-units-requires
-    after-requires
-    has-no-requires
-    byte-at-requires
-    slice-aggregate-is-scheme
-    is-scheme-requires
-    returns-2)
+    returns (λ c κs. search needs) (λ c κs. search needs) (λ c κs. search needs) (λ c κs. search needs) (λ c κs. search needs)
+    (λ c κs. search needs) slice-aggregate-is-scheme (λ c κs. search needs) returns-2)

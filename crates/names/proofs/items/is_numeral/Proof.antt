@@ -3,14 +3,9 @@ use Rattle.names.proofs.Digits.{numeral-is}
 use Rattle.names.proofs.items.is_numeral.Statement.{statement}
 use Rattle.names.proofs.items.is_numeral.Tie as tie
 
-byte-at-requires : tie.Need-byte-at-requires
-byte-at-requires c κs = search needs
-
-read-number-requires : tie.Need-read-number-requires
-read-number-requires c κs = search needs
-
 returns : tie.Need-returns
 returns c = numeral-is _ _ _ (c .before .byte-at .ensures) (c .read-number .ensures)
 
 pub is-numeral-spec : {M : Type 1} → statement M
-is-numeral-spec = tie.close (tie.spec byte-at-requires read-number-requires returns)
+is-numeral-spec = tie.close (tie.spec
+    (λ c κs. search needs) (λ c κs. search needs) returns)

@@ -17,15 +17,6 @@ Inv-loop t s v₀ i₀ v i = (v ≤ 9999) × (readNumber 0 s ≡ readNumber v (d
 abbrev μ-loop : tie.MeasureT-loop
 μ-loop t s v₀ i₀ v i = length s - i
 
-loop-holds : tie.Need-loop-holds Inv-loop μ-loop
-loop-holds c = (omega arith, refl)
-
-shared-slice-read-b : tie.Need-shared-slice-read-b Inv-loop μ-loop
-shared-slice-read-b c = omega arith
-
-is-digit-requires : tie.Need-is-digit-requires Inv-loop μ-loop
-is-digit-requires c κs = search needs
-
 -- a digit at i
 abbrev Digit : Type 0
 Digit = tie.Then1 Inv-loop μ-loop
@@ -45,9 +36,6 @@ returns c =
     let l = x .before .before .before .before .loop in
     sym (l .inv .1 ∙ read-big (S x) (l .v) (l .i) (b x) (x .before .before .before .loop-test .taken) refl (is x) (c .if2 .taken))
 
-mul-v : tie.Need-mul-v Inv-loop μ-loop
-mul-v c = omega arith
-
 sub-v : tie.Need-sub-v Inv-loop μ-loop
 sub-v c = omega (arith, digit-low (b (c .before)) (is (c .before)), digit-high (b (c .before)) (is (c .before)))
 
@@ -57,22 +45,20 @@ cast-v c = omega (arith, digit-low (b (c .before)) (is (c .before)), digit-high 
 add-v : tie.Need-add-v Inv-loop μ-loop
 add-v c = omega (arith, digit-low (b (c .before)) (is (c .before)), digit-high (b (c .before)) (is (c .before)))
 
-add-i : tie.Need-add-i Inv-loop μ-loop
-add-i c = omega arith
-
-loop-less : tie.Need-loop-less Inv-loop μ-loop
-loop-less c = omega arith
-
 loop-again : tie.Need-loop-again Inv-loop μ-loop
 loop-again c =
     let x = c .before in
     let l = x .before .before .before .before .loop in
-    (omega (arith, digit-high (b x) (is x)), l .inv .1 ∙ read-more (S x) (l .v) (l .i) (b x) (x .before .before .before .loop-test .taken) refl (is x))
+    (omega (arith, digit-high (b x) (is x)), l .inv .1 ∙ read-more (S x) (l .v) (l .i) (b x) (x .before .before .before .loop-test .taken)
+    refl (is x))
 
 returns-2 : tie.Need-returns-2 Inv-loop μ-loop
 returns-2 c =
-    let l = c .before .before .before .before .loop in
-    sym (l .inv .1 ∙ read-bad _ (l .v) (l .i) _ (c .before .before .before .loop-test .taken) refl (sym (c .before .is-digit .ensures) ∙ c .if1 .left))
+    let at-is-digit = c .before in
+    let at-loop-test = at-is-digit .before .before in
+    let loop = at-loop-test .before .loop in
+    let l = loop in
+    sym (l .inv .1 ∙ read-bad _ (l .v) (l .i) _ (at-loop-test .loop-test .taken) refl (sym (at-is-digit .is-digit .ensures) ∙ c .if1 .left))
 
 returns-3 : tie.Need-returns-3 Inv-loop μ-loop
 returns-3 c = sym (c .before .loop .inv .1 ∙ read-done _ _ _ (c .loop-test .left) (c .before .loop .inv .0))
@@ -81,18 +67,5 @@ pub read-number-spec : {M : Type 1} → statement M
 read-number-spec =
     tie.close
     (tie.spec
-    Inv-loop
-    μ-loop
-    loop-holds
-    shared-slice-read-b
-    is-digit-requires
-    returns
-    mul-v
-    sub-v
-    cast-v
-    add-v
-    add-i
-    loop-less
-    loop-again
-    returns-2
-    returns-3)
+    Inv-loop μ-loop (λ c. (omega arith, refl)) (λ c. omega arith) (λ c κs. search needs) returns (λ c. omega arith) sub-v cast-v add-v
+    (λ c. omega arith) (λ c. omega arith) loop-again returns-2 returns-3)

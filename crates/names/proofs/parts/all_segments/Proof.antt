@@ -22,12 +22,6 @@ returns : tie.Need-returns Inv-loop μ-loop
 unfolding split segment lastByte
 returns c = rw (drop-of-length-le (c .before .before .args .s .now) (le-of-lt (c .if1 .taken)))
 
-loop-holds : tie.Need-loop-holds Inv-loop μ-loop
-loop-holds c = (omega arith, refl)
-
-find-requires : tie.Need-find-requires Inv-loop μ-loop
-find-requires c κs = search needs
-
 -- past the search: the stretch from i ends within s
 abbrev Found : Type 0
 Found = tie.After-find Inv-loop μ-loop
@@ -38,23 +32,12 @@ S a = a .before .before .before .before .args .s .now
 ends : (a : Found) → a .find .result ≤ length (S a)
 ends a = stretch-le slash (S a) (a .before .loop .i) (a .find .result) (a .find .ensures) (a .before .loop .inv .0)
 
-sub-is-segment : tie.Need-sub-is-segment Inv-loop μ-loop
-sub-is-segment c = omega arith
-
-part-is-segment-start : tie.Need-part-is-segment-start Inv-loop μ-loop
-part-is-segment-start c = omega arith
-
-part-is-segment-end : tie.Need-part-is-segment-end Inv-loop μ-loop
-part-is-segment-end c = ends c
-
-is-segment-requires : tie.Need-is-segment-requires Inv-loop μ-loop
-is-segment-requires c κs = search needs
-
 returns-2 : tie.Need-returns-2 Inv-loop μ-loop
 returns-2 c =
     let b = c .before .before in
     let a = b .before .before in
-    sym (a .before .loop .inv .1 ∙ all-last slash (S a) (a .before .loop .i) (a .find .result) (a .find .ensures) (a .before .loop .inv .0) segment (c .if3 .taken) (sym (b .is-segment .ensures) ∙ c .before .if2 .taken))
+    sym (a .before .loop .inv .1 ∙ all-last slash (S a) (a .before .loop .i) (a .find .result) (a .find .ensures) (a .before .loop .inv .0)
+    segment (c .if3 .taken) (sym (b .is-segment .ensures) ∙ c .before .if2 .taken))
 
 add-i : tie.Need-add-i Inv-loop μ-loop
 add-i c = omega (arith, ends (c .before .before .before .before))
@@ -66,32 +49,20 @@ loop-again : tie.Need-loop-again Inv-loop μ-loop
 loop-again c =
     let b = c .before .before in
     let a = b .before .before in
-    let l : a .find .result < length (S a) = omega (arith, ends a) in (
-      omega arith,
-      a .before .loop .inv .1 ∙ all-more slash (S a) (a .before .loop .i) (a .find .result) (a .find .ensures) (a .before .loop .inv .0) segment l (sym (b .is-segment .ensures) ∙ c .before .if2 .taken),
-    )
+    let l : a .find .result < length (S a) = omega (arith, ends a) in
+    ( omega arith, a .before .loop .inv .1 ∙ all-more slash (S a) (a .before .loop .i) (a .find .result) (a .find .ensures)
+    (a .before .loop .inv .0) segment l (sym (b .is-segment .ensures) ∙ c .before .if2 .taken), )
 
 returns-3 : tie.Need-returns-3 Inv-loop μ-loop
 returns-3 c =
     let b = c .before in
     let a = b .before .before in
-    sym (a .before .loop .inv .1 ∙ all-not slash (S a) (a .before .loop .i) (a .find .result) (a .find .ensures) (a .before .loop .inv .0) segment (sym (b .is-segment .ensures) ∙ c .if2 .left))
+    sym (a .before .loop .inv .1 ∙ all-not slash (S a) (a .before .loop .i) (a .find .result) (a .find .ensures) (a .before .loop .inv .0)
+    segment (sym (b .is-segment .ensures) ∙ c .if2 .left))
 
 pub all-segments-spec : {M : Type 1} → statement M
 all-segments-spec =
     tie.close
     (tie.spec
-    Inv-loop
-    μ-loop
-    returns
-    loop-holds
-    find-requires
-    sub-is-segment
-    part-is-segment-start
-    part-is-segment-end
-    is-segment-requires
-    returns-2
-    add-i
-    loop-less
-    loop-again
-    returns-3)
+    Inv-loop μ-loop returns (λ c. (omega arith, refl)) (λ c κs. search needs) (λ c. omega arith) (λ c. omega arith) (λ c. ends c)
+    (λ c κs. search needs) returns-2 add-i loop-less loop-again returns-3)

@@ -12,9 +12,6 @@ use borrow.Author.Needs.{needs}
 use Rattle.names.proofs.parts.extension_at.Statement.{statement}
 use Rattle.names.proofs.parts.extension_at.Tie as tie
 
-find-past-requires : tie.Need-find-past-requires
-find-past-requires c κs = search needs
-
 -- past the first search
 abbrev First : Type 0
 First = tie.After-find-past
@@ -28,38 +25,25 @@ starts a = omega (arith, a .find-past .ensures, last-le slash (S a))
 second : (a : First) (d : ℕ) → d ≡ afterLast dot (take (length (S a) - a .find-past .result) (drop (a .find-past .result) (S a))) → afterLast dot (drop (afterLast slash (S a)) (S a)) ≡ d
 second a d e = rw (← a .find-past .ensures, ← take-rest (S a) (a .find-past .result)) (sym e)
 
-sub-past-dot : tie.Need-sub-past-dot
-sub-past-dot c = starts c
-
-part-past-dot-start : tie.Need-part-past-dot-start
-part-past-dot-start c = starts c
-
-part-past-dot-end : tie.Need-part-past-dot-end
-part-past-dot-end c = search needs
-
-past-dot-requires : tie.Need-past-dot-requires
-past-dot-requires c κs = search needs
-
 returns : tie.Need-returns
 unfolding extensionAt
 returns c = rw (second (c .before .before .before) _ (c .before .past-dot .ensures), c .if1 .taken)
 
 add-result : tie.Need-add-result
-add-result c = let a = c .before .before .before in omega (arith, starts a, c .before .past-dot .ensures, last-le dot (take (length (S a) - a .find-past .result) (drop (a .find-past .result) (S a))), simp (length-take, length-drop) at (last-le dot (take (length (S a) - a .find-past .result) (drop (a .find-past .result) (S a)))))
+add-result c =
+    let a = c .before .before .before in
+    omega (arith, starts a, c .before .past-dot .ensures, last-le dot
+    (take (length (S a) - a .find-past .result) (drop (a .find-past .result) (S a))), simp (length-take, length-drop) at
+    (last-le dot (take (length (S a) - a .find-past .result) (drop (a .find-past .result) (S a)))))
 
 returns-2 : tie.Need-returns-2
 unfolding extensionAt
-returns-2 c = let a = c .before .before .before in rw (second a _ (c .before .past-dot .ensures), ne-eqb _ _ (c .if1 .left), ← a .find-past .ensures)
+returns-2 c =
+    let a = c .before .before .before in
+    rw (second a _ (c .before .past-dot .ensures), ne-eqb _ _ (c .if1 .left), ← a .find-past .ensures)
 
 pub extension-at-spec : {M : Type 1} → statement M
 extension-at-spec =
     tie.close
     (tie.spec
-    find-past-requires
-    sub-past-dot
-    part-past-dot-start
-    part-past-dot-end
-    past-dot-requires
-    returns
-    add-result
-    returns-2)
+    (λ c κs. search needs) (λ c. starts c) (λ c. starts c) (λ c. search needs) (λ c κs. search needs) returns add-result returns-2)

@@ -13,18 +13,15 @@ returns-2 : tie.Need-returns-2
 unfolding partName
 returns-2 c = rw (lt-leb _ _ (c .if2 .taken), and-false)
 
-byte-at-requires : tie.Need-byte-at-requires
-byte-at-requires c κs = search needs
-
-table-requires : tie.Need-table-requires
-table-requires c κs = search needs
-
-all-segments-requires : tie.Need-all-segments-requires
-all-segments-requires c κs = search needs
-
 returns-3 : tie.Need-returns-3
 unfolding partName
-returns-3 c = rw (c .all-segments .ensures, ← c .before .before .before .before .byte-at .ensures, c .before .before .before .if3 .taken, le-leb _ _ (c .before .before .before .before .before .before .if1 .left), le-leb _ _ (c .before .before .before .before .before .if2 .left))
+returns-3 c =
+    let at-if3 = c .before .before .before in
+    let at-byte-at = at-if3 .before in
+    let at-if2 = at-byte-at .before in
+    let if1 = at-if2 .before .if1 in
+    rw (c .all-segments .ensures, ← at-byte-at .byte-at .ensures, at-if3 .if3 .taken, le-leb _ _ (if1 .left), le-leb _ _
+    (at-if2 .if2 .left))
 
 returns-4 : tie.Need-returns-4
 unfolding partName
@@ -34,10 +31,4 @@ pub is-part-name-spec : {M : Type 1} → statement M
 is-part-name-spec =
     tie.close
     (tie.spec
-    returns
-    returns-2
-    byte-at-requires
-    table-requires
-    all-segments-requires
-    returns-3
-    returns-4)
+    returns returns-2 (λ c κs. search needs) (λ c κs. search needs) (λ c κs. search needs) returns-3 returns-4)

@@ -9,67 +9,66 @@ use borrow.Author.Needs.{needs}
 use Rattle.names.proofs.parts.is_reserved.Statement.{statement}
 use Rattle.names.proofs.parts.is_reserved.Tie as tie
 
-find-past-requires : tie.Need-find-past-requires
-find-past-requires c κs = search needs
-
 returns : tie.Need-returns
 returns c = sym (reserved-none _ _ (c .before .find-past .ensures) (c .if1 .taken))
 
-sub-n : tie.Need-sub-n
-sub-n c = search needs
-
 slice-aggregate-find-past : tie.Need-slice-aggregate-find-past
-slice-aggregate-find-past c = sym (length-take-le _ (c .before .before .before .before .args .s .now) (omega (arith, c .before .before .find-past .ensures, last-le slash (c .before .before .before .before .args .s .now))))
-
-find-past-requires-2 : tie.Need-find-past-requires-2
-find-past-requires-2 c κs = search needs
+slice-aggregate-find-past c =
+    let at-find-past = c .before .before in
+    let at-args = at-find-past .before .before in
+    sym (length-take-le _ (at-args .args .s .now) (omega (arith, at-find-past .find-past .ensures, last-le slash (at-args .args .s .now))))
 
 sub-ends-in-rels : tie.Need-sub-ends-in-rels
-sub-ends-in-rels c = omega (arith, c .before .before .before .find-past .ensures, last-le slash (c .before .before .before .before .before .args .s .now))
+sub-ends-in-rels c =
+    let at-find-past = c .before .before .before in
+    let at-args = at-find-past .before .before in
+    omega (arith, at-find-past .find-past .ensures, last-le slash (at-args .args .s .now))
 
 part-ends-in-rels-start : tie.Need-part-ends-in-rels-start
-part-ends-in-rels-start c = omega (arith, c .before .before .before .find-past .ensures, last-le slash (c .before .before .before .before .before .args .s .now))
-
-part-ends-in-rels-end : tie.Need-part-ends-in-rels-end
-part-ends-in-rels-end c = search needs
-
-ends-in-rels-requires : tie.Need-ends-in-rels-requires
-ends-in-rels-requires c κs = search needs
+part-ends-in-rels-start c =
+    let at-find-past = c .before .before .before in
+    let at-args = at-find-past .before .before in
+    omega (arith, at-find-past .find-past .ensures, last-le slash (at-args .args .s .now))
 
 sub-is-rels : tie.Need-sub-is-rels
-sub-is-rels c = second-le _ _ (c .before .before .before .before .before .before .find-past .ensures) _ (c .before .before .before .find-past2 .ensures)
+sub-is-rels c =
+    let at-find-past2 = c .before .before .before in
+    let find-past = at-find-past2 .before .before .before .find-past in
+    second-le _ _ (find-past .ensures) _ (at-find-past2 .find-past2 .ensures)
 
 part-is-rels-start : tie.Need-part-is-rels-start
-part-is-rels-start c = second-le _ _ (c .before .before .before .before .before .before .find-past .ensures) _ (c .before .before .before .find-past2 .ensures)
+part-is-rels-start c =
+    let at-find-past2 = c .before .before .before in
+    let find-past = at-find-past2 .before .before .before .find-past in
+    second-le _ _ (find-past .ensures) _ (at-find-past2 .find-past2 .ensures)
 
 part-is-rels-end : tie.Need-part-is-rels-end
-part-is-rels-end c = omega (arith, c .before .before .before .before .before .before .find-past .ensures, last-le slash (c .before .before .before .before .before .before .before .before .args .s .now))
-
-is-rels-requires : tie.Need-is-rels-requires
-is-rels-requires c κs = search needs
+part-is-rels-end c =
+    let at-find-past = c .before .before .before .before .before .before in
+    let at-args = at-find-past .before .before in
+    omega (arith, at-find-past .find-past .ensures, last-le slash (at-args .args .s .now))
 
 returns-2 : tie.Need-returns-2
-returns-2 c = sym (reserved-is _ _ (c .before .before .before .before .before .before .before .before .find-past .ensures) _ (c .before .before .before .before .before .find-past2 .ensures) _ _ (c .is-rels .ensures) (c .before .before .before .ends-in-rels .ensures) ∙ rw (c .before .before .if2 .taken, and-right-true))
+returns-2 c =
+    let at-if2 = c .before .before in
+    let at-ends-in-rels = at-if2 .before in
+    let at-find-past2 = at-ends-in-rels .before .before in
+    let find-past = at-find-past2 .before .before .before .find-past in
+    sym (reserved-is _ _ (find-past .ensures) _ (at-find-past2 .find-past2 .ensures) _ _ (c .is-rels .ensures)
+    (at-ends-in-rels .ends-in-rels .ensures) ∙ rw (at-if2 .if2 .taken, and-right-true))
 
 returns-3 : tie.Need-returns-3
-returns-3 c = sym (reserved-is _ _ (c .before .before .before .before .before .before .find-past .ensures) _ (c .before .before .before .find-past2 .ensures) _ _ refl (c .before .ends-in-rels .ensures) ∙ rw (c .if2 .left, and-false))
+returns-3 c =
+    let at-ends-in-rels = c .before in
+    let at-find-past2 = at-ends-in-rels .before .before in
+    let find-past = at-find-past2 .before .before .before .find-past in
+    sym (reserved-is _ _ (find-past .ensures) _ (at-find-past2 .find-past2 .ensures) _ _ refl (at-ends-in-rels .ends-in-rels .ensures) ∙ rw
+    (c .if2 .left, and-false))
 
 pub is-reserved-spec : {M : Type 1} → statement M
 is-reserved-spec =
     tie.close
     (tie.spec
-    find-past-requires
-    returns
-    sub-n
-    slice-aggregate-find-past
-    find-past-requires-2
-    sub-ends-in-rels
-    part-ends-in-rels-start
-    part-ends-in-rels-end
-    ends-in-rels-requires
-    sub-is-rels
-    part-is-rels-start
-    part-is-rels-end
-    is-rels-requires
-    returns-2
-    returns-3)
+    (λ c κs. search needs) returns (λ c. search needs) slice-aggregate-find-past (λ c κs. search needs) sub-ends-in-rels
+    part-ends-in-rels-start (λ c. search needs) (λ c κs. search needs) sub-is-rels part-is-rels-start part-is-rels-end
+    (λ c κs. search needs) returns-2 returns-3)

@@ -10,21 +10,16 @@ returns : tie.Need-returns
 unfolding segment lastByte
 returns c = rw (c .if1 .taken)
 
-sub-byte-at : tie.Need-sub-byte-at
-sub-byte-at c = search needs
-
-byte-at-requires : tie.Need-byte-at-requires
-byte-at-requires c κs = search needs
-
-all-units-requires : tie.Need-all-units-requires
-all-units-requires c κs = search needs
-
 returns-2 : tie.Need-returns-2
 unfolding segment lastByte
 returns-2 c =
-    let start = c .before .before .before .before in
-    rw (c .all-units .ensures, c .before .byte-at .ensures, ne-eqb (length (start .args .s .now)) 0 (c .before .before .if1 .left))
+    let at-byte-at = c .before in
+    let at-if1 = at-byte-at .before in
+    let at-start = at-if1 .before .before in
+    let start = at-start in
+    rw (c .all-units .ensures, at-byte-at .byte-at .ensures, ne-eqb (length (start .args .s .now)) 0 (at-if1 .if1 .left))
 
 pub is-segment-spec : {M : Type 1} → statement M
 is-segment-spec =
-    tie.close (tie.spec returns sub-byte-at byte-at-requires all-units-requires returns-2)
+    tie.close (tie.spec
+    returns (λ c. search needs) (λ c κs. search needs) (λ c κs. search needs) returns-2)

@@ -3,11 +3,9 @@ use borrow.Author.Needs.{needs}
 use Rattle.names.proofs.table.class.Statement.{statement}
 use Rattle.names.proofs.table.class.Tie as tie
 
-element-copy-out-result : tie.Need-element-copy-out-result
-element-copy-out-result c = search needs
-
 returns : tie.Need-returns
 returns c = rw (c .before .pre) (classed (c .before .args .b) (search needs))
 
 pub class-spec : {M : Type 1} → statement M
-class-spec = tie.close (tie.spec element-copy-out-result returns)
+class-spec = tie.close (tie.spec
+    (λ c. search needs) returns)

@@ -8,4 +8,5 @@ unfolding classes
 returns c = refl
 
 pub table-spec : {M : Type 1} → statement M
-table-spec = tie.close (tie.spec returns)
+table-spec = tie.close (tie.spec
+    returns)

@@ -9,19 +9,14 @@ returns : tie.Need-returns
 unfolding extension
 returns c = rw (lt-leb _ _ (c .if1 .taken), and-false)
 
-table-requires : tie.Need-table-requires
-table-requires c κs = search needs
-
-has-no-requires : tie.Need-has-no-requires
-has-no-requires c κs = search needs
-
-all-units-requires : tie.Need-all-units-requires
-all-units-requires c κs = search needs
-
 returns-2 : tie.Need-returns-2
 unfolding extension
-returns-2 c = rw (c .all-units .ensures, c .before .before .has-no .ensures, le-leb _ _ (c .before .before .before .before .if1 .left), and-right-true)
+returns-2 c =
+    let at-has-no = c .before .before in
+    let if1 = at-has-no .before .before .if1 in
+    rw (c .all-units .ensures, at-has-no .has-no .ensures, le-leb _ _ (if1 .left), and-right-true)
 
 pub is-extension-spec : {M : Type 1} → statement M
 is-extension-spec =
-    tie.close (tie.spec returns table-requires has-no-requires all-units-requires returns-2)
+    tie.close (tie.spec
+    returns (λ c κs. search needs) (λ c κs. search needs) (λ c κs. search needs) returns-2)

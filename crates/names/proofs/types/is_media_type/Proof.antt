@@ -13,35 +13,17 @@ returns : tie.Need-returns
 unfolding mediaType
 returns c = rw (lt-leb _ _ (c .if1 .taken), and-false)
 
-find-requires : tie.Need-find-requires
-find-requires c κs = search needs
-
-add-j : tie.Need-add-j
-add-j c = search needs
-
-table-requires : tie.Need-table-requires
-table-requires c κs = search needs
-
 slice-aggregate-is-token : tie.Need-slice-aggregate-is-token
-slice-aggregate-is-token c = sym (length-take-le _ (c .before .before .before .before .before .before .before .args .s .now) (omega arith))
-
-is-token-requires : tie.Need-is-token-requires
-is-token-requires c κs = search needs
-
-sub-is-token : tie.Need-sub-is-token
-sub-is-token c = search needs
-
-part-is-token-start : tie.Need-part-is-token-start
-part-is-token-start c = search needs
-
-part-is-token-end : tie.Need-part-is-token-end
-part-is-token-end c = search needs
-
-is-token-requires-2 : tie.Need-is-token-requires-2
-is-token-requires-2 c κs = search needs
+slice-aggregate-is-token c =
+    let at-args = c .before .before .before .before .before .before .before in
+    sym (length-take-le _ (at-args .args .s .now) (omega arith))
 
 returns-2 : tie.Need-returns-2
-returns-2 c = media-is _ _ (c .before .before .before .before .before .before .before .before .find .ensures) _ _ (c .before .before .before .before .before .before .before .before .before .if1 .left) (c .before .before .before .is-token .ensures) (c .is-token2 .ensures)
+returns-2 c =
+    let at-is-token = c .before .before .before in
+    let at-find = at-is-token .before .before .before .before .before in
+    let if1 = at-find .before .if1 in
+    media-is _ _ (at-find .find .ensures) _ _ (if1 .left) (at-is-token .is-token .ensures) (c .is-token2 .ensures)
 
 returns-3 : tie.Need-returns-3
 returns-3 c = sym (media-no _ _ (c .before .find .ensures) (c .if2 .left))
@@ -50,15 +32,5 @@ pub is-media-type-spec : {M : Type 1} → statement M
 is-media-type-spec =
     tie.close
     (tie.spec
-    returns
-    find-requires
-    add-j
-    table-requires
-    slice-aggregate-is-token
-    is-token-requires
-    sub-is-token
-    part-is-token-start
-    part-is-token-end
-    is-token-requires-2
-    returns-2
-    returns-3)
+    returns (λ c κs. search needs) (λ c. search needs) (λ c κs. search needs) slice-aggregate-is-token (λ c κs. search needs)
+    (λ c. search needs) (λ c. search needs) (λ c. search needs) (λ c κs. search needs) returns-2 returns-3)

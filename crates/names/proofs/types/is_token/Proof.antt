@@ -3,12 +3,10 @@ use borrow.Author.Needs.{needs}
 use Rattle.names.proofs.types.is_token.Statement.{statement}
 use Rattle.names.proofs.types.is_token.Tie as tie
 
-all-members-requires : tie.Need-all-members-requires
-all-members-requires c κs = search needs
-
 returns : tie.Need-returns
 unfolding token
 returns c = rw (c .all-members .ensures)
 
 pub is-token-spec : {M : Type 1} → statement M
-is-token-spec = tie.close (tie.spec all-members-requires returns)
+is-token-spec = tie.close (tie.spec
+    (λ c κs. search needs) returns)

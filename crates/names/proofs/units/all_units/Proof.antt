@@ -19,21 +19,6 @@ Inv-loop t g s i₀ i = (i ≤ length s) × (tiled (unit g) 0 s ≡ tiled (unit 
 abbrev μ-loop : tie.MeasureT-loop
 μ-loop t g s i₀ i = length s - i
 
-loop-holds : tie.Need-loop-holds Inv-loop μ-loop
-loop-holds c = (omega arith, refl)
-
-sub-unit-len : tie.Need-sub-unit-len Inv-loop μ-loop
-sub-unit-len c = search needs
-
-part-unit-len-start : tie.Need-part-unit-len-start Inv-loop μ-loop
-part-unit-len-start c = search needs
-
-part-unit-len-end : tie.Need-part-unit-len-end Inv-loop μ-loop
-part-unit-len-end c = search needs
-
-unit-len-requires : tie.Need-unit-len-requires Inv-loop μ-loop
-unit-len-requires c κs = search needs
-
 -- past the call: the unit at i lies within s
 abbrev After : Type 0
 After = tie.After-unit-len Inv-loop μ-loop
@@ -56,7 +41,8 @@ fits a = omega (arith, here a, unit-le (G a) (drop (I a) (S a)), length-drop (I 
 returns : tie.Need-returns Inv-loop μ-loop
 returns c =
     let a = c .before in
-    sym (a .before .before .before .loop .inv .1 ∙ tiled-stop (unit (G a)) (S a) (I a) (a .before .before .loop-test .taken) (here a ∙ c .if1 .taken))
+    sym (a .before .before .before .loop .inv .1 ∙ tiled-stop (unit (G a)) (S a) (I a) (a .before .before .loop-test .taken)
+    (here a ∙ c .if1 .taken))
 
 add-i : tie.Need-add-i Inv-loop μ-loop
 add-i c = omega (arith, fits (c .before))
@@ -67,7 +53,8 @@ loop-less c = omega (arith, fits (c .before))
 loop-again : tie.Need-loop-again Inv-loop μ-loop
 loop-again c =
     let a = c .before in
-    (fits a, a .before .before .before .loop .inv .1 ∙ tiled-step (unit (G a)) (S a) (I a) (a .unit-len .result) (here a) (c .if1 .left) (fits a))
+    (fits a, a .before .before .before .loop .inv .1 ∙ tiled-step (unit (G a)) (S a) (I a) (a .unit-len .result) (here a) (c .if1 .left)
+    (fits a))
 
 returns-2 : tie.Need-returns-2 Inv-loop μ-loop
 returns-2 c = sym (c .before .loop .inv .1 ∙ tiled-end (unit _) _ (c .before .loop .i) (c .loop-test .left))
@@ -76,15 +63,5 @@ pub all-units-spec : {M : Type 1} → statement M
 all-units-spec =
     tie.close
     (tie.spec
-    Inv-loop
-    μ-loop
-    loop-holds
-    sub-unit-len
-    part-unit-len-start
-    part-unit-len-end
-    unit-len-requires
-    returns
-    add-i
-    loop-less
-    loop-again
-    returns-2)
+    Inv-loop μ-loop (λ c. (omega arith, refl)) (λ c. search needs) (λ c. search needs) (λ c. search needs) (λ c κs. search needs) returns
+    add-i loop-less loop-again returns-2)

@@ -8,23 +8,11 @@ use borrow.Author.Needs.{needs}
 use Rattle.names.proofs.units.is_name_triplet.Statement.{statement}
 use Rattle.names.proofs.units.is_name_triplet.Tie as tie
 
-is-hex-digit-requires : tie.Need-is-hex-digit-requires
-is-hex-digit-requires c κs = search needs
-
-is-hex-digit-requires-2 : tie.Need-is-hex-digit-requires-2
-is-hex-digit-requires-2 c κs = search needs
-
-hex-value-requires : tie.Need-hex-value-requires
-hex-value-requires c κs = search needs
-
 mul-v : tie.Need-mul-v
 mul-v c =
     let x = c .before .before .before in
     let e : hexDigit (x .before .before .args .b) ≡ true = sym (x .before .is-hex-digit .ensures) ∙ x .if1 .taken in
     omega (arith, hex-small (x .before .before .args .b) (x .before .before .fits .b .fits) e)
-
-hex-value-requires-2 : tie.Need-hex-value-requires-2
-hex-value-requires-2 c κs = search needs
 
 add-v : tie.Need-add-v
 add-v c =
@@ -32,17 +20,19 @@ add-v c =
     let x = y .before .before in
     let e : hexDigit (x .before .before .args .b) ≡ true = sym (x .before .is-hex-digit .ensures) ∙ x .if1 .taken in
     let f : hexDigit (x .before .before .args .c) ≡ true = sym (y .before .is-hex-digit2 .ensures) ∙ y .if2 .taken in
-    omega (arith, hex-small (x .before .before .args .b) (x .before .before .fits .b .fits) e, hex-small (x .before .before .args .c) (x .before .before .fits .c .fits) f)
-
-is-unreserved-requires : tie.Need-is-unreserved-requires
-is-unreserved-requires c κs = search needs
+    omega (arith, hex-small (x .before .before .args .b) (x .before .before .fits .b .fits) e, hex-small (x .before .before .args .c)
+    (x .before .before .fits .c .fits) f)
 
 returns : tie.Need-returns
 unfolding nameTriplet
 returns c =
-    let y = c .before .before .before in
+    let at-hex-value2 = c .before in
+    let at-hex-value = at-hex-value2 .before in
+    let at-start = at-hex-value .before in
+    let y = at-start in
     let x = y .before .before in
-    rw (c .is-unreserved .ensures, c .before .hex-value2 .ensures, c .before .before .hex-value .ensures, sym (x .before .is-hex-digit .ensures) ∙ x .if1 .taken, sym (y .before .is-hex-digit2 .ensures) ∙ y .if2 .taken)
+    rw (c .is-unreserved .ensures, at-hex-value2 .hex-value2 .ensures, at-hex-value .hex-value .ensures, sym
+    (x .before .is-hex-digit .ensures) ∙ x .if1 .taken, sym (y .before .is-hex-digit2 .ensures) ∙ y .if2 .taken)
 
 returns-2 : tie.Need-returns-2
 unfolding nameTriplet
@@ -58,13 +48,5 @@ pub is-name-triplet-spec : {M : Type 1} → statement M
 is-name-triplet-spec =
     tie.close
     (tie.spec
-    is-hex-digit-requires
-    is-hex-digit-requires-2
-    hex-value-requires
-    mul-v
-    hex-value-requires-2
-    add-v
-    is-unreserved-requires
-    returns
-    returns-2
-    returns-3)
+    (λ c κs. search needs) (λ c κs. search needs) (λ c κs. search needs) mul-v (λ c κs. search needs) add-v (λ c κs. search needs) returns
+    returns-2 returns-3)

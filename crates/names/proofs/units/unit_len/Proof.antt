@@ -3,41 +3,25 @@ use borrow.Author.Needs.{needs}
 use Rattle.names.proofs.units.unit_len.Statement.{statement}
 use Rattle.names.proofs.units.unit_len.Tie as tie
 
-byte-at-requires : tie.Need-byte-at-requires
-byte-at-requires c κs = search needs
-
-is-single-requires : tie.Need-is-single-requires
-is-single-requires c κs = search needs
-
 returns : tie.Need-returns
 unfolding unit
 returns c = rw (← c .before .before .byte-at .ensures, ← c .before .is-single .ensures, c .if1 .taken)
 
-byte-at-requires-2 : tie.Need-byte-at-requires-2
-byte-at-requires-2 c κs = search needs
-
-byte-at-requires-3 : tie.Need-byte-at-requires-3
-byte-at-requires-3 c κs = search needs
-
-byte-at-requires-4 : tie.Need-byte-at-requires-4
-byte-at-requires-4 c κs = search needs
-
-long-unit-requires : tie.Need-long-unit-requires
-long-unit-requires c κs = search needs
-
 returns-2 : tie.Need-returns-2
 unfolding unit
-returns-2 c = rw (← c .before .before .before .before .before .before .byte-at .ensures, ← c .before .before .before .before .before .is-single .ensures, c .before .before .before .before .if1 .left, ← c .before .before .before .byte-at2 .ensures, ← c .before .before .byte-at3 .ensures, ← c .before .byte-at4 .ensures) (c .long-unit .ensures)
+returns-2 c =
+    let at-byte-at4 = c .before in
+    let at-byte-at3 = at-byte-at4 .before in
+    let at-byte-at2 = at-byte-at3 .before in
+    let at-if1 = at-byte-at2 .before in
+    let at-is-single = at-if1 .before in
+    let byte-at = at-is-single .before .byte-at in
+    rw (← byte-at .ensures, ← at-is-single .is-single .ensures, at-if1 .if1 .left, ← at-byte-at2 .byte-at2 .ensures, ←
+    at-byte-at3 .byte-at3 .ensures, ← at-byte-at4 .byte-at4 .ensures) (c .long-unit .ensures)
 
 pub unit-len-spec : {M : Type 1} → statement M
 unit-len-spec =
     tie.close
     (tie.spec
-    byte-at-requires
-    is-single-requires
-    returns
-    byte-at-requires-2
-    byte-at-requires-3
-    byte-at-requires-4
-    long-unit-requires
-    returns-2)
+    (λ c κs. search needs) (λ c κs. search needs) returns (λ c κs. search needs) (λ c κs. search needs) (λ c κs. search needs)
+    (λ c κs. search needs) returns-2)

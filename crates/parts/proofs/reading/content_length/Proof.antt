@@ -12,23 +12,16 @@ Inv-loop pkg from to n₀ i₀ n i = Measuring pkg from to i n
 abbrev μ-loop : tie.MeasureT-loop
 μ-loop pkg from to n₀ i₀ n i = to - i
 
-loop-holds : tie.Need-loop-holds Inv-loop μ-loop
-loop-holds c = measuring-begin _ _ _
-
-field-requires : tie.Need-field-requires Inv-loop μ-loop
-field-requires c κs = search needs
-
 add-n : tie.Need-add-n Inv-loop μ-loop
-add-n c = omega (arith, c .before .before .before .before .pre, c .before .before .loop .inv .few, c .before .loop-test .taken, c .field .ensures .0)
-
-add-i : tie.Need-add-i Inv-loop μ-loop
-add-i c = search needs
-
-loop-less : tie.Need-loop-less Inv-loop μ-loop
-loop-less c = search needs
+add-n c =
+    let at-loop-test = c .before in
+    let at-loop = at-loop-test .before in
+    let at-pre = at-loop .before .before in
+    omega (arith, at-pre .pre, at-loop .loop .inv .few, at-loop-test .loop-test .taken, c .field .ensures .0)
 
 loop-again : tie.Need-loop-again Inv-loop μ-loop
-loop-again c = measuring-more _ _ _ _ _ (c .before .before .loop .inv) (c .before .loop-test .taken) _ (c .field .ensures .0) (c .field .ensures .2)
+loop-again c =
+    measuring-more _ _ _ _ _ (c .before .before .loop .inv) (c .before .loop-test .taken) _ (c .field .ensures .0) (c .field .ensures .2)
 
 returns : tie.Need-returns Inv-loop μ-loop
 returns c = measured-end _ _ _ _ _ (c .before .loop .inv) (c .loop-test .left)
@@ -36,4 +29,5 @@ returns c = measured-end _ _ _ _ _ (c .before .loop .inv) (c .loop-test .left)
 pub content-length-spec : {M : Type 1} → statement M
 content-length-spec =
     tie.close
-    (tie.spec Inv-loop μ-loop loop-holds field-requires add-n add-i loop-less loop-again returns)
+    (tie.spec
+    Inv-loop μ-loop (λ c. measuring-begin _ _ _) (λ c κs. search needs) add-n (λ c. search needs) (λ c. search needs) loop-again returns)

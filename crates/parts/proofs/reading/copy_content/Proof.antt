@@ -14,35 +14,20 @@ Inv-loop pkg from to offset out₀ at₀ skip₀ i₀ out at skip i = (length ou
 abbrev μ-loop : tie.MeasureT-loop
 μ-loop pkg from to offset out₀ at₀ skip₀ i₀ out at skip i = to - i
 
-loop-holds : tie.Need-loop-holds Inv-loop μ-loop
-loop-holds c = (refl, copying-begin _ _ _ _ _)
-
-same-length : tie.Need-same-length Inv-loop μ-loop
-same-length c = search needs
-
 returns : tie.Need-returns Inv-loop μ-loop
 returns c = copied-full _ _ _ _ _ _ _ _ _ (c .before .before .loop .inv .1) (c .before .before .loop .inv .0) (c .if1 .taken)
-
-field-requires : tie.Need-field-requires Inv-loop μ-loop
-field-requires c κs = search needs
 
 copy-rest-requires : tie.Need-copy-rest-requires Inv-loop μ-loop
 copy-rest-requires c κs = omega (arith, c .before .before .if1 .left)
 
-skip-past-requires : tie.Need-skip-past-requires Inv-loop μ-loop
-skip-past-requires c κs = search needs
-
-add-i : tie.Need-add-i Inv-loop μ-loop
-add-i c = search needs
-
-loop-less : tie.Need-loop-less Inv-loop μ-loop
-loop-less c = search needs
-
 loop-again : tie.Need-loop-again Inv-loop μ-loop
-loop-again c = (omega (arith, c .before .before .before .before .before .before .before .before .loop .inv .0), copying-more _ _ _ _ _ _ _ _ _ (c .before .before .before .before .before .before .before .before .loop .inv .1) (c .before .before .before .before .before .before .before .before .loop .inv .0) (c .before .before .before .before .before .before .before .loop-test .taken) _ (c .before .before .before .before .before .field .ensures .2) _ _ (c .before .before .before .copy-rest .ensures) _ (c .skip-past .ensures))
-
-same-length-2 : tie.Need-same-length-2 Inv-loop μ-loop
-same-length-2 c = search needs
+loop-again c =
+    let at-copy-rest = c .before .before .before in
+    let at-field = at-copy-rest .before .before in
+    let at-loop-test = at-field .before .before in
+    let at-loop = at-loop-test .before in
+    (omega (arith, at-loop .loop .inv .0), copying-more _ _ _ _ _ _ _ _ _ (at-loop .loop .inv .1) (at-loop .loop .inv .0)
+    (at-loop-test .loop-test .taken) _ (at-field .field .ensures .2) _ _ (at-copy-rest .copy-rest .ensures) _ (c .skip-past .ensures))
 
 returns-2 : tie.Need-returns-2 Inv-loop μ-loop
 returns-2 c = copied-end _ _ _ _ _ _ _ _ _ (c .before .loop .inv .1) (c .before .loop .inv .0) (c .loop-test .left)
@@ -51,16 +36,5 @@ pub copy-content-spec : {M : Type 1} → statement M
 copy-content-spec =
     tie.close
     (tie.spec
-    Inv-loop
-    μ-loop
-    loop-holds
-    same-length
-    returns
-    field-requires
-    copy-rest-requires
-    skip-past-requires
-    add-i
-    loop-less
-    loop-again
-    same-length-2
-    returns-2)
+    Inv-loop μ-loop (λ c. (refl, copying-begin _ _ _ _ _)) (λ c. search needs) returns (λ c κs. search needs) copy-rest-requires
+    (λ c κs. search needs) (λ c. search needs) (λ c. search needs) loop-again (λ c. search needs) returns-2)

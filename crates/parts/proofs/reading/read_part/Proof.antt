@@ -5,55 +5,62 @@ use borrow.Author.Needs.{needs}
 use Rattle.parts.proofs.reading.read_part.Statement.{statement}
 use Rattle.parts.proofs.reading.read_part.Tie as tie
 
-is-package-requires : tie.Need-is-package-requires
-is-package-requires c κs = search needs
-
 returns : tie.Need-returns
 returns c =
-    let a = c .before .before .before .before .before .args in
-    prints-foreign _ (closed _ _ (c .before .is-package .ensures) (c .if1 .taken)) (ReadPart (a .name .now) (a .offset)) (a .out .now)
-
-is-part-name-requires : tie.Need-is-part-name-requires
-is-part-name-requires c κs = search needs
+    let at-is-package = c .before in
+    let args = at-is-package .before .before .before .before .args in
+    let a = args in
+    prints-foreign _ (closed _ _ (at-is-package .is-package .ensures) (c .if1 .taken)) (ReadPart (a .name .now) (a .offset)) (a .out .now)
 
 returns-2 : tie.Need-returns-2
 returns-2 c =
-    let a = c .before .before .before .before .before .before .before .args in
-    read-misnamed _ (opened _ _ (c .before .before .before .is-package .ensures) (c .before .before .if1 .left)) (a .name .now) (a .offset) (a .out .now) _ (c .before .is-part-name .ensures) (c .if2 .taken)
+    let at-is-part-name = c .before in
+    let at-if1 = at-is-part-name .before in
+    let at-is-package = at-if1 .before in
+    let args = at-is-package .before .before .before .before .args in
+    let a = args in
+    read-misnamed _ (opened _ _ (at-is-package .is-package .ensures) (at-if1 .if1 .left)) (a .name .now) (a .offset) (a .out .now) _
+    (at-is-part-name .is-part-name .ensures) (c .if2 .taken)
 
 find-group-requires : tie.Need-find-group-requires
-find-group-requires c κs = opened-shape _ _ (c .before .before .before .is-package .ensures) (c .before .before .if1 .left)
-
-makes-part-requires : tie.Need-makes-part-requires
-makes-part-requires c κs = search needs
+find-group-requires c κs =
+    let at-if1 = c .before .before in
+    let is-package = at-if1 .before .is-package in
+    opened-shape _ _ (is-package .ensures) (at-if1 .if1 .left)
 
 returns-3 : tie.Need-returns-3
 returns-3 c =
-    let a = c .before .before .before .before .before .before .before .before .before .before .args in
-    read-missing _ (opened _ _ (c .before .before .before .before .before .before .is-package .ensures) (c .before .before .before .before .before .if1 .left)) (a .name .now) (a .offset) (a .out .now) _ (c .before .before .before .before .is-part-name .ensures) (c .before .before .before .if2 .left) _ _ (c .before .before .find-group .ensures) _ (c .before .makes-part .ensures) (c .if3 .taken)
-
-copy-content-requires : tie.Need-copy-content-requires
-copy-content-requires c κs = search needs
-
-same-length : tie.Need-same-length
-same-length c = search needs
+    let at-makes-part = c .before in
+    let at-find-group = at-makes-part .before in
+    let at-if2 = at-find-group .before in
+    let at-is-part-name = at-if2 .before in
+    let at-if1 = at-is-part-name .before in
+    let at-is-package = at-if1 .before in
+    let args = at-is-package .before .before .before .before .args in
+    let a = args in
+    read-missing _ (opened _ _ (at-is-package .is-package .ensures) (at-if1 .if1 .left)) (a .name .now) (a .offset) (a .out .now) _
+    (at-is-part-name .is-part-name .ensures) (at-if2 .if2 .left) _ _ (at-find-group .find-group .ensures) _
+    (at-makes-part .makes-part .ensures) (c .if3 .taken)
 
 returns-4 : tie.Need-returns-4
 returns-4 c =
-    let a = c .before .before .before .before .before .before .before .before .before .before .before .before .before .before .args in
-    read-done _ (opened _ _ (c .before .before .before .before .before .before .before .before .before .before .is-package .ensures) (c .before .before .before .before .before .before .before .before .before .if1 .left)) (a .name .now) (a .offset) (a .out .now) _ (c .before .before .before .before .before .before .before .before .is-part-name .ensures) (c .before .before .before .before .before .before .before .if2 .left) _ _ (c .before .before .before .before .before .before .find-group .ensures) _ (c .before .before .before .before .before .makes-part .ensures) (c .before .before .before .before .if3 .left) _ _ (c .before .before .copy-content .ensures)
+    let at-copy-content = c .before .before in
+    let at-if3 = at-copy-content .before .before in
+    let at-makes-part = at-if3 .before in
+    let at-find-group = at-makes-part .before in
+    let at-if2 = at-find-group .before in
+    let at-is-part-name = at-if2 .before in
+    let at-if1 = at-is-part-name .before in
+    let at-is-package = at-if1 .before in
+    let args = at-is-package .before .before .before .before .args in
+    let a = args in
+    read-done _ (opened _ _ (at-is-package .is-package .ensures) (at-if1 .if1 .left)) (a .name .now) (a .offset) (a .out .now) _
+    (at-is-part-name .is-part-name .ensures) (at-if2 .if2 .left) _ _ (at-find-group .find-group .ensures) _
+    (at-makes-part .makes-part .ensures) (at-if3 .if3 .left) _ _ (at-copy-content .copy-content .ensures)
 
 pub read-part-spec : {M : Type 1} → statement M
 read-part-spec =
     tie.close
     (tie.spec
-    is-package-requires
-    returns
-    is-part-name-requires
-    returns-2
-    find-group-requires
-    makes-part-requires
-    returns-3
-    copy-content-requires
-    same-length
-    returns-4)
+    (λ c κs. search needs) returns (λ c κs. search needs) returns-2 find-group-requires (λ c κs. search needs) returns-3
+    (λ c κs. search needs) (λ c. search needs) returns-4)

@@ -8,47 +8,59 @@ use borrow.Author.Needs.{needs}
 use Rattle.relationships.proofs.calls.put_relationship.Statement.{statement}
 use Rattle.relationships.proofs.calls.put_relationship.Tie as tie
 
-is-package-requires : tie.Need-is-package-requires
-is-package-requires c κs = search needs
-
-same-length : tie.Need-same-length
-same-length c = search needs
-
 returns : tie.Need-returns
-returns c = changes-foreign _ (closed _ _ (c .before .is-package .ensures) (c .if1 .taken)) (PutRelationship (c .before .before .before .before .before .before .before .before .args .source .now) (c .before .before .before .before .before .before .before .before .args .id .now) (c .before .before .before .before .before .before .before .before .args .kind .now) (c .before .before .before .before .before .before .before .before .args .mode) (c .before .before .before .before .before .before .before .before .args .target .now))
-
-fields-refusal-requires : tie.Need-fields-refusal-requires
-fields-refusal-requires c κs = search needs
-
-same-length-2 : tie.Need-same-length-2
-same-length-2 c = search needs
+returns c =
+    let at-is-package = c .before in
+    let args = at-is-package .before .before .before .before .before .before .before .args in
+    changes-foreign _ (closed _ _ (at-is-package .is-package .ensures) (c .if1 .taken))
+    (PutRelationship (args .source .now) (args .id .now) (args .kind .now) (args .mode) (args .target .now))
 
 returns-2 : tie.Need-returns-2
-returns-2 c = put-refused _ (opened _ _ (c .before .before .before .is-package .ensures) (c .before .before .if1 .left)) (c .before .before .before .before .before .before .before .before .before .before .args .source .now) (c .before .before .before .before .before .before .before .before .before .before .args .id .now) (c .before .before .before .before .before .before .before .before .before .before .args .kind .now) (c .before .before .before .before .before .before .before .before .before .before .args .mode) (c .before .before .before .before .before .before .before .before .before .before .args .target .now) _ (c .before .fields-refusal .ensures) (c .if2 .taken)
+returns-2 c =
+    let at-fields-refusal = c .before in
+    let at-if1 = at-fields-refusal .before in
+    let at-is-package = at-if1 .before in
+    let args = at-is-package .before .before .before .before .before .before .before .args in
+    put-refused _ (opened _ _ (at-is-package .is-package .ensures) (at-if1 .if1 .left)) (args .source .now) (args .id .now)
+    (args .kind .now) (args .mode) (args .target .now) _ (at-fields-refusal .fields-refusal .ensures) (c .if2 .taken)
 
 add-put-row : tie.Need-add-put-row
-add-put-row c = let l = mode-small (c .before .before .before .before .before .before .before .before .before .before .before .args .source .now) (c .before .before .before .before .before .before .before .before .before .before .before .args .id .now) (c .before .before .before .before .before .before .before .before .before .before .before .args .kind .now) (c .before .before .before .before .before .before .before .before .before .before .before .args .mode) (c .before .before .before .before .before .before .before .before .before .before .before .args .target .now) (sym (c .before .before .fields-refusal .ensures) ∙ c .before .if2 .left) in omega arith
+add-put-row c =
+    let at-if2 = c .before in
+    let at-fields-refusal = at-if2 .before in
+    let at-args = at-fields-refusal .before .before .before .before .before .before .before .before .before in
+    let l = mode-small (at-args .args .source .now) (at-args .args .id .now) (at-args .args .kind .now) (at-args .args .mode)
+    (at-args .args .target .now) (sym (at-fields-refusal .fields-refusal .ensures) ∙ at-if2 .if2 .left) in
+    omega arith
 
 put-row-requires : tie.Need-put-row-requires
-put-row-requires c κs = let l = mode-small (c .before .before .before .before .before .before .before .before .before .before .before .args .source .now) (c .before .before .before .before .before .before .before .before .before .before .before .args .id .now) (c .before .before .before .before .before .before .before .before .before .before .before .args .kind .now) (c .before .before .before .before .before .before .before .before .before .before .before .args .mode) (c .before .before .before .before .before .before .before .before .before .before .before .args .target .now) (sym (c .before .before .fields-refusal .ensures) ∙ c .before .if2 .left) in (tested-shape _ _ (c .before .before .before .before .is-package .ensures) (c .before .before .before .if1 .left), (source-some (c .before .before .before .before .before .before .before .before .before .before .before .args .source .now) (c .before .before .before .before .before .before .before .before .before .before .before .args .id .now) (c .before .before .before .before .before .before .before .before .before .before .before .args .kind .now) (c .before .before .before .before .before .before .before .before .before .before .before .args .mode) (c .before .before .before .before .before .before .before .before .before .before .before .args .target .now) (sym (c .before .before .fields-refusal .ensures) ∙ c .before .if2 .left), omega arith))
-
-same-length-3 : tie.Need-same-length-3
-same-length-3 c = search needs
+put-row-requires c κs =
+    let at-if2 = c .before in
+    let at-fields-refusal = at-if2 .before in
+    let at-if1 = at-fields-refusal .before in
+    let at-is-package = at-if1 .before in
+    let at-args = at-is-package .before .before .before .before .before .before .before in
+    let l = mode-small (at-args .args .source .now) (at-args .args .id .now) (at-args .args .kind .now) (at-args .args .mode)
+    (at-args .args .target .now) (sym (at-fields-refusal .fields-refusal .ensures) ∙ at-if2 .if2 .left) in
+    (tested-shape _ _ (at-is-package .is-package .ensures) (at-if1 .if1 .left),
+    (source-some (at-args .args .source .now) (at-args .args .id .now) (at-args .args .kind .now) (at-args .args .mode)
+    (at-args .args .target .now) (sym (at-fields-refusal .fields-refusal .ensures) ∙ at-if2 .if2 .left), omega arith))
 
 returns-3 : tie.Need-returns-3
-returns-3 c = put-ran _ (opened _ _ (c .before .before .before .before .before .before .before .is-package .ensures) (c .before .before .before .before .before .before .if1 .left)) (c .before .before .before .before .before .before .before .before .before .before .before .before .before .before .args .source .now) (c .before .before .before .before .before .before .before .before .before .before .before .before .before .before .args .id .now) (c .before .before .before .before .before .before .before .before .before .before .before .before .before .before .args .kind .now) (c .before .before .before .before .before .before .before .before .before .before .before .before .before .before .args .mode) (c .before .before .before .before .before .before .before .before .before .before .before .before .before .before .args .target .now) _ (c .before .before .before .before .before .fields-refusal .ensures) (c .before .before .before .before .if2 .left) _ _ (c .before .before .put-row .kept .0) (c .before .before .put-row .ensures)
+returns-3 c =
+    let at-put-row = c .before .before in
+    let at-if2 = at-put-row .before .before in
+    let at-fields-refusal = at-if2 .before in
+    let at-if1 = at-fields-refusal .before in
+    let at-is-package = at-if1 .before in
+    let args = at-is-package .before .before .before .before .before .before .before .args in
+    put-ran _ (opened _ _ (at-is-package .is-package .ensures) (at-if1 .if1 .left)) (args .source .now) (args .id .now) (args .kind .now)
+    (args .mode) (args .target .now) _ (at-fields-refusal .fields-refusal .ensures) (at-if2 .if2 .left) _ _ (at-put-row .put-row .kept .0)
+    (at-put-row .put-row .ensures)
 
 pub put-relationship-spec : {M : Type 1} → statement M
 put-relationship-spec =
     tie.close
     (tie.spec
-    is-package-requires
-    same-length
-    returns
-    fields-refusal-requires
-    same-length-2
-    returns-2
-    add-put-row
-    put-row-requires
-    same-length-3
-    returns-3)
+    (λ c κs. search needs) (λ c. search needs) returns (λ c κs. search needs) (λ c. search needs) returns-2 add-put-row put-row-requires
+    (λ c. search needs) returns-3)

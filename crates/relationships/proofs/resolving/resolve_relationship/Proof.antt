@@ -6,47 +6,73 @@ use borrow.Author.Needs.{needs}
 use Rattle.relationships.proofs.resolving.resolve_relationship.Statement.{statement}
 use Rattle.relationships.proofs.resolving.resolve_relationship.Tie as tie
 
-is-package-requires : tie.Need-is-package-requires
-is-package-requires c κs = search needs
-
 returns : tie.Need-returns
-returns c = prints-foreign _ (closed _ _ (c .before .is-package .ensures) (c .if1 .taken)) (ResolveRelationship (c .before .before .before .before .before .before .before .args .source .now) (c .before .before .before .before .before .before .before .args .id .now) (c .before .before .before .before .before .before .before .args .base .now)) (c .before .before .before .before .before .before .before .args .out .now)
-
-asked-refusal-requires : tie.Need-asked-refusal-requires
-asked-refusal-requires c κs = search needs
+returns c =
+    let at-is-package = c .before in
+    let args = at-is-package .before .before .before .before .before .before .args in
+    prints-foreign _ (closed _ _ (at-is-package .is-package .ensures) (c .if1 .taken))
+    (ResolveRelationship (args .source .now) (args .id .now) (args .base .now)) (args .out .now)
 
 returns-2 : tie.Need-returns-2
-returns-2 c = resolve-refused _ (opened _ _ (c .before .before .before .is-package .ensures) (c .before .before .if1 .left)) (c .before .before .before .before .before .before .before .before .before .args .source .now) (c .before .before .before .before .before .before .before .before .before .args .id .now) (c .before .before .before .before .before .before .before .before .before .args .base .now) (c .before .before .before .before .before .before .before .before .before .args .out .now) _ (c .before .asked-refusal .ensures) (c .if2 .taken)
+returns-2 c =
+    let at-asked-refusal = c .before in
+    let at-if1 = at-asked-refusal .before in
+    let at-is-package = at-if1 .before in
+    let args = at-is-package .before .before .before .before .before .before .args in
+    resolve-refused _ (opened _ _ (at-is-package .is-package .ensures) (at-if1 .if1 .left)) (args .source .now) (args .id .now)
+    (args .base .now) (args .out .now) _ (at-asked-refusal .asked-refusal .ensures) (c .if2 .taken)
 
 locate-requires : tie.Need-locate-requires
-locate-requires c κs = opened-shape _ _ (c .before .before .before .is-package .ensures) (c .before .before .if1 .left)
-
-count-requires : tie.Need-count-requires
-count-requires c κs = search needs
+locate-requires c κs =
+    let at-if1 = c .before .before in
+    let is-package = at-if1 .before .is-package in
+    opened-shape _ _ (is-package .ensures) (at-if1 .if1 .left)
 
 resolve-row-requires : tie.Need-resolve-row-requires
-resolve-row-requires c κs = (opened-shape _ _ (c .before .before .before .before .before .before .before .is-package .ensures) (c .before .before .before .before .before .before .if1 .left), omega (arith, c .before .before .count .ensures .0, c .before .if3 .taken), package-size _ (opened _ _ (c .before .before .before .before .before .before .before .is-package .ensures) (c .before .before .before .before .before .before .if1 .left)) (c .before .before .before .before .before .before .before .before .before .before .before .before .before .args .source .now) (c .before .before .before .before .before .before .before .before .before .before .before .before .before .args .id .now) (c .before .before .before .before .before .before .before .before .before .before .before .before .before .args .base .now) (c .before .before .before .before .before .before .before .before .before .before .before .before .before .args .out .now) _ (c .before .before .before .before .before .asked-refusal .ensures) (c .before .before .before .before .if2 .left))
-
-same-length : tie.Need-same-length
-same-length c = search needs
+resolve-row-requires c κs =
+    let at-if3 = c .before in
+    let at-count = at-if3 .before in
+    let at-if2 = at-count .before .before in
+    let at-asked-refusal = at-if2 .before in
+    let at-if1 = at-asked-refusal .before in
+    let at-is-package = at-if1 .before in
+    let at-args = at-is-package .before .before .before .before .before .before in
+    (opened-shape _ _ (at-is-package .is-package .ensures) (at-if1 .if1 .left), omega
+    (arith, at-count .count .ensures .0, at-if3 .if3 .taken), package-size _
+    (opened _ _ (at-is-package .is-package .ensures) (at-if1 .if1 .left)) (at-args .args .source .now) (at-args .args .id .now)
+    (at-args .args .base .now) (at-args .args .out .now) _ (at-asked-refusal .asked-refusal .ensures) (at-if2 .if2 .left))
 
 returns-3 : tie.Need-returns-3
-returns-3 c = resolve-found _ (opened _ _ (c .before .before .before .before .before .before .before .before .before .before .is-package .ensures) (c .before .before .before .before .before .before .before .before .before .if1 .left)) (c .before .before .before .before .before .before .before .before .before .before .before .before .before .before .before .before .args .source .now) (c .before .before .before .before .before .before .before .before .before .before .before .before .before .before .before .before .args .id .now) (c .before .before .before .before .before .before .before .before .before .before .before .before .before .before .before .before .args .base .now) (c .before .before .before .before .before .before .before .before .before .before .before .before .before .before .before .before .args .out .now) _ (c .before .before .before .before .before .before .before .before .asked-refusal .ensures) (c .before .before .before .before .before .before .before .if2 .left) _ _ (c .before .before .before .before .before .before .locate .ensures) (c .before .before .before .before .before .count .ensures .0) (c .before .before .before .before .if3 .taken) _ (c .before .before .resolve-row .ensures)
+returns-3 c =
+    let at-resolve-row = c .before .before in
+    let at-if3 = at-resolve-row .before .before in
+    let at-count = at-if3 .before in
+    let at-locate = at-count .before in
+    let at-if2 = at-locate .before in
+    let at-asked-refusal = at-if2 .before in
+    let at-if1 = at-asked-refusal .before in
+    let at-is-package = at-if1 .before in
+    let args = at-is-package .before .before .before .before .before .before .args in
+    resolve-found _ (opened _ _ (at-is-package .is-package .ensures) (at-if1 .if1 .left)) (args .source .now) (args .id .now)
+    (args .base .now) (args .out .now) _ (at-asked-refusal .asked-refusal .ensures) (at-if2 .if2 .left) _ _ (at-locate .locate .ensures)
+    (at-count .count .ensures .0) (at-if3 .if3 .taken) _ (at-resolve-row .resolve-row .ensures)
 
 returns-4 : tie.Need-returns-4
-returns-4 c = resolve-missing _ (opened _ _ (c .before .before .before .before .before .before .is-package .ensures) (c .before .before .before .before .before .if1 .left)) (c .before .before .before .before .before .before .before .before .before .before .before .before .args .source .now) (c .before .before .before .before .before .before .before .before .before .before .before .before .args .id .now) (c .before .before .before .before .before .before .before .before .before .before .before .before .args .base .now) (c .before .before .before .before .before .before .before .before .before .before .before .before .args .out .now) _ (c .before .before .before .before .asked-refusal .ensures) (c .before .before .before .if2 .left) _ _ (c .before .before .locate .ensures) (c .before .count .ensures .0) (c .if3 .left)
+returns-4 c =
+    let at-count = c .before in
+    let at-locate = at-count .before in
+    let at-if2 = at-locate .before in
+    let at-asked-refusal = at-if2 .before in
+    let at-if1 = at-asked-refusal .before in
+    let at-is-package = at-if1 .before in
+    let args = at-is-package .before .before .before .before .before .before .args in
+    resolve-missing _ (opened _ _ (at-is-package .is-package .ensures) (at-if1 .if1 .left)) (args .source .now) (args .id .now)
+    (args .base .now) (args .out .now) _ (at-asked-refusal .asked-refusal .ensures) (at-if2 .if2 .left) _ _ (at-locate .locate .ensures)
+    (at-count .count .ensures .0) (c .if3 .left)
 
 pub resolve-relationship-spec : {M : Type 1} → statement M
 resolve-relationship-spec =
     tie.close
     (tie.spec
-    is-package-requires
-    returns
-    asked-refusal-requires
-    returns-2
-    locate-requires
-    count-requires
-    resolve-row-requires
-    same-length
-    returns-3
-    returns-4)
+    (λ c κs. search needs) returns (λ c κs. search needs) returns-2 locate-requires (λ c κs. search needs) resolve-row-requires
+    (λ c. search needs) returns-3 returns-4)

@@ -17,4 +17,5 @@ returns-5 : tie.Need-returns-5
 returns-5 c = is-called _ _ (c .before .before .before .read-head .ensures) (omega arith) (omega arith) (omega arith) (omega arith)
 
 pub next-call-spec : {M : Type 1} → statement M
-next-call-spec = tie.close (tie.spec (λ c. no-head _ (c .if1 .taken)) (λ c κs. search needs) returns-2 returns-3 returns-4 returns-5)
+next-call-spec = tie.close (tie.spec
+    (λ c. no-head _ (c .if1 .taken)) (λ c κs. search needs) returns-2 returns-3 returns-4 returns-5)

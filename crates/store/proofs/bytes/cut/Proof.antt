@@ -7,67 +7,19 @@ use Rattle.store.specs.Buffer.{part}
 use Rattle.store.proofs.bytes.cut.Statement.{statement}
 use Rattle.store.proofs.bytes.cut.Tie as tie
 
-sub-result : tie.Need-sub-result
-sub-result c = search needs
-
-part-result-start : tie.Need-part-result-start
-part-result-start c = search needs
-
-part-result-end : tie.Need-part-result-end
-part-result-end c = search needs
-
-returns : tie.Need-returns
-returns c = (omega arith, omega arith, (λ h. absurd (omega arith)))
-
-sub-if2 : tie.Need-sub-if2
-sub-if2 c = search needs
-
-sub-result-2 : tie.Need-sub-result-2
-sub-result-2 c = search needs
-
-part-result-start-2 : tie.Need-part-result-start-2
-part-result-start-2 c = search needs
-
-part-result-end-2 : tie.Need-part-result-end-2
-part-result-end-2 c = search needs
-
-returns-2 : tie.Need-returns-2
-returns-2 c = (omega arith, omega arith, (λ h. absurd (omega arith)))
-
-add-e : tie.Need-add-e
-add-e c = search needs
-
-sub-result-3 : tie.Need-sub-result-3
-sub-result-3 c = search needs
-
-part-result-start-3 : tie.Need-part-result-start-3
-part-result-start-3 c = search needs
-
-part-result-end-3 : tie.Need-part-result-end-3
-part-result-end-3 c = search needs
-
 returns-3 : tie.Need-returns-3
 unfolding part
 returns-3 c =
     let a = c .before .before .before .args in
     let e : a .at + a .n - a .at ≡ a .n = omega arith in
-    (simp (length-take, length-drop) (omega arith), simp (length-take, length-drop) (omega arith), (λ h. ap (λ (k : ℕ). take k (drop (a .at) (a .pkg .now))) e))
+    (simp (length-take, length-drop) (omega arith), simp (length-take, length-drop) (omega arith),
+    (λ h. ap (λ (k : ℕ). take k (drop (a .at) (a .pkg .now))) e))
 
 pub cut-spec : {M : Type 1} → statement M
 cut-spec =
     tie.close
     (tie.spec
-    sub-result
-    part-result-start
-    part-result-end
-    returns
-    sub-if2
-    sub-result-2
-    part-result-start-2
-    part-result-end-2
-    returns-2
-    add-e
-    sub-result-3
-    part-result-start-3
-    part-result-end-3
-    returns-3)
+    (λ c. search needs) (λ c. search needs) (λ c. search needs) (λ c. (omega arith, omega arith, (λ h. absurd (omega arith))))
+    (λ c. search needs) (λ c. search needs) (λ c. search needs) (λ c. search needs)
+    (λ c. (omega arith, omega arith, (λ h. absurd (omega arith)))) (λ c. search needs) (λ c. search needs) (λ c. search needs)
+    (λ c. search needs) returns-3)

@@ -3,53 +3,21 @@ use borrow.Author.Needs.{needs}
 use Rattle.store.proofs.header.is_package.Statement.{statement}
 use Rattle.store.proofs.header.is_package.Tie as tie
 
-returns : tie.Need-returns
-returns c = package-short _ (c .if1 .taken)
-
-get4-requires : tie.Need-get4-requires
-get4-requires c κs = search needs
-
-get4-requires-2 : tie.Need-get4-requires-2
-get4-requires-2 c κs = search needs
-
-get4-requires-3 : tie.Need-get4-requires-3
-get4-requires-3 c κs = search needs
-
-get4-requires-4 : tie.Need-get4-requires-4
-get4-requires-4 c κs = search needs
-
-get4-requires-5 : tie.Need-get4-requires-5
-get4-requires-5 c κs = search needs
-
-format-requires : tie.Need-format-requires
-format-requires c κs = search needs
-
-get4-requires-6 : tie.Need-get4-requires-6
-get4-requires-6 c κs = search needs
-
-add-result : tie.Need-add-result
-add-result c = search needs
-
-add-result-2 : tie.Need-add-result-2
-add-result-2 c = search needs
-
 returns-2 : tie.Need-returns-2
 returns-2 c =
-    package-read _ _ _ _ _ _ _ _ (c .before .before .before .before .before .before .before .if1 .left) (c .before .before .before .get44 .ensures .0) (c .before .before .get45 .ensures .0) (c .before .format .ensures) (c .before .before .before .before .before .before .get4 .ensures .0) (c .get46 .ensures .0)
-    (c .before .before .before .before .before .get42 .ensures .0) (c .before .before .before .before .get43 .ensures .0)
+    let at-format = c .before in
+    let at-get45 = at-format .before in
+    let at-get44 = at-get45 .before in
+    let at-get43 = at-get44 .before in
+    let at-get42 = at-get43 .before in
+    let at-get4 = at-get42 .before in
+    let if1 = at-get4 .before .if1 in
+    package-read _ _ _ _ _ _ _ _ (if1 .left) (at-get44 .get44 .ensures .0) (at-get45 .get45 .ensures .0) (at-format .format .ensures)
+    (at-get4 .get4 .ensures .0) (c .get46 .ensures .0) (at-get42 .get42 .ensures .0) (at-get43 .get43 .ensures .0)
 
 pub is-package-spec : {M : Type 1} → statement M
 is-package-spec =
     tie.close
     (tie.spec
-    returns
-    get4-requires
-    get4-requires-2
-    get4-requires-3
-    get4-requires-4
-    get4-requires-5
-    format-requires
-    get4-requires-6
-    add-result
-    add-result-2
-    returns-2)
+    (λ c. package-short _ (c .if1 .taken)) (λ c κs. search needs) (λ c κs. search needs) (λ c κs. search needs) (λ c κs. search needs)
+    (λ c κs. search needs) (λ c κs. search needs) (λ c κs. search needs) (λ c. search needs) (λ c. search needs) returns-2)

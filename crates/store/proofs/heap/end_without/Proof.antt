@@ -8,14 +8,9 @@ use Rattle.store.proofs.heap.end_without.Tie as tie
 returns : tie.Need-returns
 returns c = record { low = omega arith; is = inr (inr (refl, c .if1 .taken)) }
 
-add-if2 : tie.Need-add-if2
-add-if2 c = search needs
-
 returns-2 : tie.Need-returns-2
 returns-2 c = record { low = omega arith; is = inr (inl (refl, c .if2 .taken)) }
 
-returns-3 : tie.Need-returns-3
-returns-3 c = record { low = omega arith; is = inl refl }
-
 pub end-without-spec : {M : Type 1} → statement M
-end-without-spec = tie.close (tie.spec returns add-if2 returns-2 returns-3)
+end-without-spec = tie.close (tie.spec
+    returns (λ c. search needs) returns-2 (λ c. record { low = omega arith; is = inl refl }))

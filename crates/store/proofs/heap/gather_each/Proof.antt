@@ -14,17 +14,11 @@ Inv-loop pkg₀ n e c₀ r₀ pkg c r = (length pkg ≡ length pkg₀) × (c ≤
 abbrev μ-loop : tie.MeasureT-loop
 μ-loop pkg₀ n e c₀ r₀ pkg c r = e - c
 
-lowest-requires : tie.Need-lowest-requires Inv-loop μ-loop
-lowest-requires c κs = omega arith
-
 loop-holds : tie.Need-loop-holds Inv-loop μ-loop
 loop-holds c = (omega arith, omega arith, c .lowest .ensures, (λ so. gather-none _ so))
 
 settle-requires : tie.Need-settle-requires Inv-loop μ-loop
 settle-requires c κs = omega (arith, c .before .before .loop .inv .2 .above (c .before .loop-test .taken))
-
-same-length : tie.Need-same-length Inv-loop μ-loop
-same-length c = omega arith
 
 returns : tie.Need-returns Inv-loop μ-loop
 returns c so =
@@ -36,44 +30,31 @@ returns c so =
     let h = gather-some _ _ _ _ _ _ _ _ (inv .3 so) (pre .1) (pre .2) (pre .3) (inv .1) (inv .2) taken (at-settle .settle .ensures) in
     absurd (omega (arith, c .if1 .taken))
 
-add-c : tie.Need-add-c Inv-loop μ-loop
-add-c c = omega arith
-
-lowest-requires-2 : tie.Need-lowest-requires-2 Inv-loop μ-loop
-lowest-requires-2 c κs = omega arith
-
-loop-less : tie.Need-loop-less Inv-loop μ-loop
-loop-less c = omega arith
-
 loop-again : tie.Need-loop-again Inv-loop μ-loop
 loop-again c =
-    let at-settle = c .before .before .before .before .before in
+    let at-start = c .before .before .before .before .before in
+    let at-settle = at-start in
     let at-loop = at-settle .before .before .before in
     let inv = at-loop .loop .inv in
     let pre = at-loop .before .before .before .before .pre in
-    let taken = at-settle .before .before .loop-test .taken in (
-      omega arith,
-      omega arith,
-      c .lowest2 .ensures,
-      (λ so. gather-more _ _ _ _ _ _ _ _ (inv .3 so) (pre .1) (pre .2) (pre .3) (inv .1) (inv .2) taken (at-settle .settle .ensures)),
-    )
-
-put4-requires : tie.Need-put4-requires Inv-loop μ-loop
-put4-requires c κs = omega arith
-
-same-length-2 : tie.Need-same-length-2 Inv-loop μ-loop
-same-length-2 c = omega arith
+    let taken = at-settle .before .before .loop-test .taken in
+    ( omega arith, omega arith, c .lowest2 .ensures,
+    (λ so. gather-more _ _ _ _ _ _ _ _ (inv .3 so) (pre .1) (pre .2) (pre .3) (inv .1) (inv .2) taken (at-settle .settle .ensures)), )
 
 returns-2 : tie.Need-returns-2 Inv-loop μ-loop
 returns-2 c so =
-    let at-loop = c .before .before .before .before .before in
+    let at-put4 = c .before .before in
+    let at-loop-test = at-put4 .before .before in
+    let at-start = at-loop-test .before in
+    let at-loop = at-start in
     let inv = at-loop .loop .inv in
     let pre = at-loop .before .before .before .before .pre in
-    gather-all _ _ _ _ _ _ _ (inv .3 so) (pre .1) (pre .2) (pre .3) (inv .1) (inv .2) (c .before .before .before .before .loop-test .left) (c .before .before .put4 .ensures)
+    gather-all _ _ _ _ _ _ _ (inv .3 so) (pre .1) (pre .2) (pre .3) (inv .1) (inv .2) (at-loop-test .loop-test .left)
+    (at-put4 .put4 .ensures)
 
 pub gather-each-spec : {M : Type 1} → statement M
 gather-each-spec =
     tie.close
     (tie.spec
-    Inv-loop μ-loop lowest-requires loop-holds settle-requires same-length returns add-c lowest-requires-2 loop-less loop-again
-    put4-requires same-length-2 returns-2)
+    Inv-loop μ-loop (λ c κs. omega arith) loop-holds settle-requires (λ c. omega arith) returns (λ c. omega arith) (λ c κs. omega arith)
+    (λ c. omega arith) loop-again (λ c κs. omega arith) (λ c. omega arith) returns-2)

@@ -4,43 +4,18 @@ use Rattle.store.proofs.Joined.{put-fields-is}
 use Rattle.store.proofs.heap.put_fields.Statement.{statement}
 use Rattle.store.proofs.heap.put_fields.Tie as tie
 
-add-a1 : tie.Need-add-a1
-add-a1 c = search needs
-
-add-a2 : tie.Need-add-a2
-add-a2 c = search needs
-
-add-a3 : tie.Need-add-a3
-add-a3 c = search needs
-
-copy-in-requires : tie.Need-copy-in-requires
-copy-in-requires c κs = search needs
-
-copy-in-requires-2 : tie.Need-copy-in-requires-2
-copy-in-requires-2 c κs = search needs
-
-copy-in-requires-3 : tie.Need-copy-in-requires-3
-copy-in-requires-3 c κs = search needs
-
-copy-in-requires-4 : tie.Need-copy-in-requires-4
-copy-in-requires-4 c κs = search needs
-
-same-length : tie.Need-same-length
-same-length c = search needs
-
 returns : tie.Need-returns
-returns c = put-fields-is _ _ _ _ _ _ _ _ _ _ (omega arith) (c .before .before .before .before .before .before .before .before .before .before .before .before .before .before .copy-in .ensures) (c .before .before .before .before .before .before .before .before .before .before .copy-in2 .ensures) (c .before .before .before .before .before .before .copy-in3 .ensures) (c .before .before .copy-in4 .ensures)
+returns c =
+    let at-copy-in4 = c .before .before in
+    let at-copy-in3 = at-copy-in4 .before .before .before .before in
+    let at-copy-in2 = at-copy-in3 .before .before .before .before in
+    let at-copy-in = at-copy-in2 .before .before .before .before in
+    put-fields-is _ _ _ _ _ _ _ _ _ _ (omega arith) (at-copy-in .copy-in .ensures) (at-copy-in2 .copy-in2 .ensures)
+    (at-copy-in3 .copy-in3 .ensures) (at-copy-in4 .copy-in4 .ensures)
 
 pub put-fields-spec : {M : Type 1} → statement M
 put-fields-spec =
     tie.close
     (tie.spec
-    add-a1
-    add-a2
-    add-a3
-    copy-in-requires
-    copy-in-requires-2
-    copy-in-requires-3
-    copy-in-requires-4
-    same-length
-    returns)
+    (λ c. search needs) (λ c. search needs) (λ c. search needs) (λ c κs. search needs) (λ c κs. search needs) (λ c κs. search needs)
+    (λ c κs. search needs) (λ c. search needs) returns)

@@ -15,33 +15,12 @@ Inv-loop pkg₀ at src i₀ pkg i = (i ≤ length src) × (length pkg ≡ length
 abbrev μ-loop : tie.MeasureT-loop
 μ-loop pkg₀ at src i₀ pkg i = length src - i
 
-loop-holds : tie.Need-loop-holds Inv-loop μ-loop
-loop-holds c = (omega arith, refl, splice-nil _ _)
-
-shared-slice-read-pkg : tie.Need-shared-slice-read-pkg Inv-loop μ-loop
-shared-slice-read-pkg c = omega arith
-
-add-pkg : tie.Need-add-pkg Inv-loop μ-loop
-add-pkg c = omega arith
-
-slice-write-pkg : tie.Need-slice-write-pkg Inv-loop μ-loop
-slice-write-pkg c = omega arith
-
-add-i : tie.Need-add-i Inv-loop μ-loop
-add-i c = omega arith
-
-loop-less : tie.Need-loop-less Inv-loop μ-loop
-loop-less c = omega arith
-
 turn : (l : List ℕ) (a : ℕ) (s : List ℕ) (i : ℕ) → i < length s → a + length s ≤ length l
     → (m : List ℕ) → m ≡ splice l a (take i s) → set m (a + i) (getD s i 0) ≡ splice l a (take (i + 1) s)
 turn l a s i q h m e = rw e (copy-turn l a s i q h)
 
 loop-again : tie.Need-loop-again Inv-loop μ-loop
 loop-again c = (omega arith, simp length-set (omega arith), turn _ _ _ _ (omega arith) (omega arith) _ (c .before .before .loop .inv .2))
-
-same-length : tie.Need-same-length Inv-loop μ-loop
-same-length c = omega arith
 
 returns : tie.Need-returns Inv-loop μ-loop
 returns c =
@@ -50,4 +29,6 @@ returns c =
     c .before .loop .inv .2 ∙ ap (splice _ _) (ap (λ (k : ℕ). take k s) e ∙ take-length s)
 
 pub copy-each-spec : {M : Type 1} → statement M
-copy-each-spec = tie.close (tie.spec Inv-loop μ-loop loop-holds shared-slice-read-pkg add-pkg slice-write-pkg add-i loop-less loop-again same-length returns)
+copy-each-spec = tie.close (tie.spec
+    Inv-loop μ-loop (λ c. (omega arith, refl, splice-nil _ _)) (λ c. omega arith) (λ c. omega arith) (λ c. omega arith) (λ c. omega arith)
+    (λ c. omega arith) loop-again (λ c. omega arith) returns)

@@ -15,55 +15,28 @@ Inv-loop pkg₀ at src i₀ pkg i = (i ≤ length src) × (length pkg ≡ length
 abbrev μ-loop : tie.MeasureT-loop
 μ-loop pkg₀ at src i₀ pkg i = length src - i
 
-loop-holds : tie.Need-loop-holds Inv-loop μ-loop
-loop-holds c = (omega arith, refl, splice-nil _ _)
-
-sub-block-size : tie.Need-sub-block-size Inv-loop μ-loop
-sub-block-size c = omega arith
-
-block-size-requires : tie.Need-block-size-requires Inv-loop μ-loop
-block-size-requires c κs = omega arith
-
-add-e : tie.Need-add-e Inv-loop μ-loop
-add-e c = omega arith
-
-add-copy-block : tie.Need-add-copy-block Inv-loop μ-loop
-add-copy-block c = omega arith
-
-sub-copy-block : tie.Need-sub-copy-block Inv-loop μ-loop
-sub-copy-block c = omega arith
-
-part-copy-block-start : tie.Need-part-copy-block-start Inv-loop μ-loop
-part-copy-block-start c = omega arith
-
-part-copy-block-end : tie.Need-part-copy-block-end Inv-loop μ-loop
-part-copy-block-end c = omega arith
-
-copy-block-requires : tie.Need-copy-block-requires Inv-loop μ-loop
-copy-block-requires c κs = omega arith
-
-loop-less : tie.Need-loop-less Inv-loop μ-loop
-loop-less c = omega arith
-
 loop-again : tie.Need-loop-again Inv-loop μ-loop
 loop-again c =
-    let a = c .before .before .before .before .before .before .before .before .before .before .args in
-    let i : ℕ = c .before .before .before .before .before .before .before .loop .i in
-    let k : ℕ = c .before .before .before .before .before .block-size .result in (
-      omega arith,
-      omega arith,
-      copy-more (a .pkg .now) _ _ (a .at) (a .src .now) i k (omega arith) (omega arith) (c .before .before .before .before .before .before .before .loop .inv .2)
-          (c .before .before .copy-block .ensures ∙ ap (splice _ _) (slice-part i (i + k) k (a .src .now) (omega arith))),
-    )
-
-same-length : tie.Need-same-length Inv-loop μ-loop
-same-length c = omega arith
+    let at-copy-block = c .before .before in
+    let at-block-size = at-copy-block .before .before .before in
+    let at-loop = at-block-size .before .before in
+    let at-args = at-loop .before .before .before in
+    let a = at-args .args in
+    let i : ℕ = at-loop .loop .i in
+    let k : ℕ = at-block-size .block-size .result in
+    ( omega arith, omega arith, copy-more (a .pkg .now) _ _ (a .at) (a .src .now) i k (omega arith) (omega arith) (at-loop .loop .inv .2)
+    (at-copy-block .copy-block .ensures ∙ ap (splice _ _) (slice-part i (i + k) k (a .src .now) (omega arith))), )
 
 returns : tie.Need-returns Inv-loop μ-loop
 returns c =
-    let s = c .before .before .before .before .args .src .now in
-    let e : c .before .loop .i ≡ length s = omega arith in
-    c .before .loop .inv .2 ∙ ap (splice _ _) (ap (λ (k : ℕ). take k s) e ∙ take-length s)
+    let at-loop = c .before in
+    let at-args = at-loop .before .before .before in
+    let s = at-args .args .src .now in
+    let e : at-loop .loop .i ≡ length s = omega arith in
+    at-loop .loop .inv .2 ∙ ap (splice _ _) (ap (λ (k : ℕ). take k s) e ∙ take-length s)
 
 pub copy-in-spec : {M : Type 1} → statement M
-copy-in-spec = tie.close (tie.spec Inv-loop μ-loop loop-holds sub-block-size block-size-requires add-e add-copy-block sub-copy-block part-copy-block-start part-copy-block-end copy-block-requires loop-less loop-again same-length returns)
+copy-in-spec = tie.close (tie.spec
+    Inv-loop μ-loop (λ c. (omega arith, refl, splice-nil _ _)) (λ c. omega arith) (λ c κs. omega arith) (λ c. omega arith)
+    (λ c. omega arith) (λ c. omega arith) (λ c. omega arith) (λ c. omega arith) (λ c κs. omega arith) (λ c. omega arith) loop-again
+    (λ c. omega arith) returns)

@@ -19,43 +19,26 @@ abbrev μ-loop : tie.MeasureT-loop
 returns : tie.Need-returns Inv-loop μ-loop
 returns c =
     let a = c .before .before .args in
-    sym (splice-part (a .from) (a .count) (a .pkg .now) (omega arith)) ∙ ap (λ (k : ℕ). splice (a .pkg .now) k (part (a .from) (a .count) (a .pkg .now))) (c .if1 .taken)
-
-loop-holds : tie.Need-loop-holds Inv-loop μ-loop
-loop-holds c = (omega arith, refl, splice-nil _ _)
-
-sub-block-size : tie.Need-sub-block-size Inv-loop μ-loop
-sub-block-size c = omega arith
-
-block-size-requires : tie.Need-block-size-requires Inv-loop μ-loop
-block-size-requires c κs = omega arith
-
-add-move-block : tie.Need-add-move-block Inv-loop μ-loop
-add-move-block c = omega arith
-
-add-move-block-2 : tie.Need-add-move-block-2 Inv-loop μ-loop
-add-move-block-2 c = omega arith
-
-move-block-requires : tie.Need-move-block-requires Inv-loop μ-loop
-move-block-requires c κs = (omega arith, omega arith, omega arith)
-
-add-i : tie.Need-add-i Inv-loop μ-loop
-add-i c = omega arith
-
-loop-less : tie.Need-loop-less Inv-loop μ-loop
-loop-less c = omega arith
+    sym (splice-part (a .from) (a .count) (a .pkg .now) (omega arith)) ∙ ap
+    (λ (k : ℕ). splice (a .pkg .now) k (part (a .from) (a .count) (a .pkg .now))) (c .if1 .taken)
 
 loop-again : tie.Need-loop-again Inv-loop μ-loop
-loop-again c = (omega arith, omega arith, move-more _ _ _ _ _ _ _ _ (omega arith) (omega arith) (omega arith) (c .before .before .before .before .before .before .loop .inv .2) (c .before .before .move-block .ensures))
-
-same-length : tie.Need-same-length Inv-loop μ-loop
-same-length c = omega arith
+loop-again c =
+    let at-move-block = c .before .before in
+    let at-loop = at-move-block .before .before .before .before in
+    (omega arith, omega arith, move-more _ _ _ _ _ _ _ _ (omega arith) (omega arith) (omega arith) (at-loop .loop .inv .2)
+    (at-move-block .move-block .ensures))
 
 returns-2 : tie.Need-returns-2 Inv-loop μ-loop
 returns-2 c =
-    let a = c .before .before .before .before .args in
+    let at-loop = c .before in
+    let at-args = at-loop .before .before .before in
+    let a = at-args .args in
     let e : length (part (a .from) (a .count) (a .pkg .now)) ≡ a .count = length-part _ _ _ (omega arith) in
-    c .before .loop .inv .2 ∙ ap (splice _ _) (take-all (c .before .loop .i) (part (a .from) (a .count) (a .pkg .now)) (omega arith))
+    at-loop .loop .inv .2 ∙ ap (splice _ _) (take-all (at-loop .loop .i) (part (a .from) (a .count) (a .pkg .now)) (omega arith))
 
 pub move-down-spec : {M : Type 1} → statement M
-move-down-spec = tie.close (tie.spec Inv-loop μ-loop returns loop-holds sub-block-size block-size-requires add-move-block add-move-block-2 move-block-requires add-i loop-less loop-again same-length returns-2)
+move-down-spec = tie.close (tie.spec
+    Inv-loop μ-loop returns (λ c. (omega arith, refl, splice-nil _ _)) (λ c. omega arith) (λ c κs. omega arith) (λ c. omega arith)
+    (λ c. omega arith) (λ c κs. (omega arith, omega arith, omega arith)) (λ c. omega arith) (λ c. omega arith) loop-again (λ c. omega arith)
+    returns-2)

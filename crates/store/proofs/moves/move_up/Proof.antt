@@ -22,29 +22,12 @@ loop-holds c =
     let e : length (part (a .from) (a .count) (a .pkg .now)) ≡ a .count = length-part _ _ _ (omega arith) in
     (omega arith, refl, rw (drop-of-length-le (part (a .from) (a .count) (a .pkg .now)) {i = a .count} (omega arith)) (splice-nil _ _))
 
-block-size-requires : tie.Need-block-size-requires Inv-loop μ-loop
-block-size-requires c κs = omega arith
-
-sub-i : tie.Need-sub-i Inv-loop μ-loop
-sub-i c = omega arith
-
-add-move-block : tie.Need-add-move-block Inv-loop μ-loop
-add-move-block c = omega arith
-
-add-move-block-2 : tie.Need-add-move-block-2 Inv-loop μ-loop
-add-move-block-2 c = omega arith
-
-move-block-requires : tie.Need-move-block-requires Inv-loop μ-loop
-move-block-requires c κs = (omega arith, omega arith, omega arith)
-
-loop-less : tie.Need-loop-less Inv-loop μ-loop
-loop-less c = omega arith
-
 loop-again : tie.Need-loop-again Inv-loop μ-loop
-loop-again c = (omega arith, omega arith, move-more-before _ _ _ _ _ _ _ _ _ (omega arith) (omega arith) (c .before .before .before .before .before .before .loop .inv .0) (omega arith) (c .before .before .before .before .before .before .loop .inv .2) (c .before .before .move-block .ensures))
-
-same-length : tie.Need-same-length Inv-loop μ-loop
-same-length c = omega arith
+loop-again c =
+    let at-move-block = c .before .before in
+    let at-loop = at-move-block .before .before .before .before in
+    (omega arith, omega arith, move-more-before _ _ _ _ _ _ _ _ _ (omega arith) (omega arith) (at-loop .loop .inv .0) (omega arith)
+    (at-loop .loop .inv .2) (at-move-block .move-block .ensures))
 
 returns : tie.Need-returns Inv-loop μ-loop
 returns c =
@@ -52,4 +35,6 @@ returns c =
     c .before .loop .inv .2 ∙ rw (z, add-zero)
 
 pub move-up-spec : {M : Type 1} → statement M
-move-up-spec = tie.close (tie.spec Inv-loop μ-loop loop-holds block-size-requires sub-i add-move-block add-move-block-2 move-block-requires loop-less loop-again same-length returns)
+move-up-spec = tie.close (tie.spec
+    Inv-loop μ-loop loop-holds (λ c κs. omega arith) (λ c. omega arith) (λ c. omega arith) (λ c. omega arith)
+    (λ c κs. (omega arith, omega arith, omega arith)) (λ c. omega arith) loop-again (λ c. omega arith) returns)

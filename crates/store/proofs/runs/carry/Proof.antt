@@ -13,5 +13,4 @@ carry-spec =
     tie.close
     (tie.spec
     (λ c. search needs) (λ c. record { is = inl (c .if1 .taken, refl, refl) }) (λ c. search needs) (λ c. search needs) (λ c. search needs)
-    (λ c κs. search needs) (λ c. search needs)
-    returns-2)
+    (λ c κs. search needs) (λ c. search needs) returns-2)

@@ -13,35 +13,19 @@ Inv-loop pkg₀ t n e c₀ a₀ q₀ j₀ pkg c a q j = (j ≤ n) × Run pkg₀ 
 abbrev μ-loop : tie.MeasureT-loop
 μ-loop pkg₀ t n e c₀ a₀ q₀ j₀ pkg c a q j = n - j
 
-loop-holds : tie.Need-loop-holds Inv-loop μ-loop
-loop-holds c = (omega arith, run-none _ _ _ _)
-
-mul-widened : tie.Need-mul-widened Inv-loop μ-loop
-mul-widened c = search needs
-
-shared-slice-read-widened : tie.Need-shared-slice-read-widened Inv-loop μ-loop
-shared-slice-read-widened c = omega arith
-
-widened-requires : tie.Need-widened-requires Inv-loop μ-loop
-widened-requires c κs = search needs
-
 offset-requires : tie.Need-offset-requires Inv-loop μ-loop
 offset-requires c κs =
     let at = c .before in
-    let h = named-low _ _ _ _ _ (at .before .before .before .before .before .before .pre .1 .1) (at .before .before .loop-test .taken) (at .widened .ensures) in
+    let h = named-low _ _ _ _ _ (at .before .before .before .before .before .before .pre .1 .1) (at .before .before .loop-test .taken)
+    (at .widened .ensures) in
     omega arith
 
 size-requires : tie.Need-size-requires Inv-loop μ-loop
 size-requires c κs =
     let at = c .before .before .before in
-    let h = named-low _ _ _ _ _ (at .before .before .before .before .before .before .pre .1 .1) (at .before .before .loop-test .taken) (at .widened .ensures) in
+    let h = named-low _ _ _ _ _ (at .before .before .before .before .before .before .pre .1 .1) (at .before .before .loop-test .taken)
+    (at .widened .ensures) in
     omega arith
-
-add-if1 : tie.Need-add-if1 Inv-loop μ-loop
-add-if1 c = omega arith
-
-same-length : tie.Need-same-length Inv-loop μ-loop
-same-length c = omega arith
 
 returns : tie.Need-returns Inv-loop μ-loop
 returns c so =
@@ -51,15 +35,9 @@ returns c so =
     let at-loop = at-widened .before .before .before in
     let pre = at-loop .before .before .before .pre in
     let taken = at-widened .before .before .loop-test .taken in
-    let h = row-behind _ _ _ _ _ _ _ _ _ (at-loop .loop .inv .1) (pre .1 .1) (pre .0 .1) (pre .0 .2) (pre .0 .3) taken
-    _ _ _ (at-widened .widened .ensures) (at-offset .offset .ensures .0) (at-size .size .ensures .0) so in
+    let h = row-behind _ _ _ _ _ _ _ _ _ (at-loop .loop .inv .1) (pre .1 .1) (pre .0 .1) (pre .0 .2) (pre .0 .3) taken _ _ _
+    (at-widened .widened .ensures) (at-offset .offset .ensures .0) (at-size .size .ensures .0) so in
     absurd (omega (arith, c .if1 .taken))
-
-add-if2 : tie.Need-add-if2 Inv-loop μ-loop
-add-if2 c = omega arith
-
-same-length-2 : tie.Need-same-length-2 Inv-loop μ-loop
-same-length-2 c = omega arith
 
 returns-2 : tie.Need-returns-2 Inv-loop μ-loop
 returns-2 c so =
@@ -69,49 +47,51 @@ returns-2 c so =
     let at-loop = at-widened .before .before .before in
     let pre = at-loop .before .before .before .pre in
     let taken = at-widened .before .before .loop-test .taken in
-    let h = row-inside _ _ _ _ _ _ _ _ _ (at-loop .loop .inv .1) (pre .1 .1) (pre .0 .1) (pre .0 .2) (pre .0 .3) taken
-    _ _ _ (at-widened .widened .ensures) (at-offset .offset .ensures .0) (at-size .size .ensures .0) so in
+    let h = row-inside _ _ _ _ _ _ _ _ _ (at-loop .loop .inv .1) (pre .1 .1) (pre .0 .1) (pre .0 .2) (pre .0 .3) taken _ _ _
+    (at-widened .widened .ensures) (at-offset .offset .ensures .0) (at-size .size .ensures .0) so in
     absurd (omega (arith, c .if2 .taken))
-
-carry-requires : tie.Need-carry-requires Inv-loop μ-loop
-carry-requires c κs = omega arith
 
 mul-put4 : tie.Need-mul-put4 Inv-loop μ-loop
 mul-put4 c =
-    let at = c .before .before .before .before .before .before .before .before .before .before .before in
-    let h = named-low _ _ _ _ _ (at .before .before .before .before .before .before .pre .1 .1) (at .before .before .loop-test .taken) (at .widened .ensures) in
+    let at-start = c .before .before .before .before .before .before .before .before .before .before .before in
+    let at = at-start in
+    let h = named-low _ _ _ _ _ (at .before .before .before .before .before .before .pre .1 .1) (at .before .before .loop-test .taken)
+    (at .widened .ensures) in
     omega arith
 
 add-put4 : tie.Need-add-put4 Inv-loop μ-loop
 add-put4 c =
-    let at = c .before .before .before .before .before .before .before .before .before .before .before in
-    let h = named-low _ _ _ _ _ (at .before .before .before .before .before .before .pre .1 .1) (at .before .before .loop-test .taken) (at .widened .ensures) in
+    let at-start = c .before .before .before .before .before .before .before .before .before .before .before in
+    let at = at-start in
+    let h = named-low _ _ _ _ _ (at .before .before .before .before .before .before .pre .1 .1) (at .before .before .loop-test .taken)
+    (at .widened .ensures) in
     omega arith
 
 put4-requires : tie.Need-put4-requires Inv-loop μ-loop
 put4-requires c κs =
-    let at = c .before .before .before .before .before .before .before .before .before .before .before in
-    let h = named-low _ _ _ _ _ (at .before .before .before .before .before .before .pre .1 .1) (at .before .before .loop-test .taken) (at .widened .ensures) in
+    let at-start = c .before .before .before .before .before .before .before .before .before .before .before in
+    let at = at-start in
+    let h = named-low _ _ _ _ _ (at .before .before .before .before .before .before .pre .1 .1) (at .before .before .loop-test .taken)
+    (at .widened .ensures) in
     omega arith
 
 sub-a : tie.Need-sub-a Inv-loop μ-loop
-sub-a c = let h = carry-left _ _ _ _ _ _ _ (c .before .before .before .before .before .before .carry .ensures) in omega arith
+sub-a c =
+    let at-carry = c .before .before .before .before .before .before in
+    let h = carry-left _ _ _ _ _ _ _ (at-carry .carry .ensures) in
+    omega arith
 
 add-q : tie.Need-add-q Inv-loop μ-loop
-add-q c = let h = carry-left _ _ _ _ _ _ _ (c .before .before .before .before .before .before .carry .ensures) in omega arith
-
-add-c : tie.Need-add-c Inv-loop μ-loop
-add-c c = omega arith
-
-add-j : tie.Need-add-j Inv-loop μ-loop
-add-j c = omega arith
-
-loop-less : tie.Need-loop-less Inv-loop μ-loop
-loop-less c = omega arith
+add-q c =
+    let at-carry = c .before .before .before .before .before .before in
+    let h = carry-left _ _ _ _ _ _ _ (at-carry .carry .ensures) in
+    omega arith
 
 loop-again : tie.Need-loop-again Inv-loop μ-loop
 loop-again c =
-    let at-carry = c .before .before .before .before .before .before in
+    let at-put4 = c .before .before in
+    let at-start = at-put4 .before .before .before .before in
+    let at-carry = at-start in
     let at-if2 = at-carry .before .before in
     let at-if1 = at-if2 .before in
     let at-size = at-if1 .before in
@@ -120,41 +100,26 @@ loop-again c =
     let at-loop = at-widened .before .before .before in
     let pre = at-loop .before .before .before .pre in
     let taken = at-widened .before .before .loop-test .taken in
-    let more = run-more _ _ _ _ _ _ _ _ _ (at-loop .loop .inv .1) (pre .1 .1) (pre .0 .1) (pre .0 .2) (pre .0 .3) taken
-    _ _ _ (at-widened .widened .ensures) (at-offset .offset .ensures .0) (at-size .size .ensures .0)
-    _ _ _ (at-carry .carry .ensures) (c .before .before .put4 .ensures) (omega arith) (at-if1 .if1 .left) (at-if2 .if2 .left) in
+    let more = run-more _ _ _ _ _ _ _ _ _ (at-loop .loop .inv .1) (pre .1 .1) (pre .0 .1) (pre .0 .2) (pre .0 .3) taken _ _ _
+    (at-widened .widened .ensures) (at-offset .offset .ensures .0) (at-size .size .ensures .0) _ _ _ (at-carry .carry .ensures)
+    (at-put4 .put4 .ensures) (omega arith) (at-if1 .if1 .left) (at-if2 .if2 .left) in
     (omega arith, more)
-
-add-move-down : tie.Need-add-move-down Inv-loop μ-loop
-add-move-down c = omega arith
-
-sub-move-down : tie.Need-sub-move-down Inv-loop μ-loop
-sub-move-down c = omega arith
-
-add-move-down-2 : tie.Need-add-move-down-2 Inv-loop μ-loop
-add-move-down-2 c = omega arith
-
-move-down-requires : tie.Need-move-down-requires Inv-loop μ-loop
-move-down-requires c κs = omega arith
-
-put4-requires-2 : tie.Need-put4-requires-2 Inv-loop μ-loop
-put4-requires-2 c κs = omega arith
-
-same-length-3 : tie.Need-same-length-3 Inv-loop μ-loop
-same-length-3 c = omega arith
 
 returns-3 : tie.Need-returns-3 Inv-loop μ-loop
 returns-3 c so =
-    let at-move-down = c .before .before .before .before .before .before in
+    let at-put42 = c .before .before in
+    let at-start = at-put42 .before .before .before .before in
+    let at-move-down = at-start in
     let at-loop = at-move-down .before .before .before in
     let pre = at-loop .before .before .before .pre in
-    run-all _ _ _ _ _ _ _ _ _ _ _ (at-loop .loop .inv .1) (pre .1 .1) (pre .0 .1) (pre .0 .2) (pre .0 .3) (at-move-down .before .before .loop-test .left)
-    (at-move-down .move-down .ensures) (c .before .before .put42 .ensures) so
+    run-all _ _ _ _ _ _ _ _ _ _ _ (at-loop .loop .inv .1) (pre .1 .1) (pre .0 .1) (pre .0 .2) (pre .0 .3)
+    (at-move-down .before .before .loop-test .left) (at-move-down .move-down .ensures) (at-put42 .put42 .ensures) so
 
 pub gather-runs-spec : {M : Type 1} → statement M
 gather-runs-spec =
     tie.close
     (tie.spec
-    Inv-loop μ-loop loop-holds mul-widened shared-slice-read-widened widened-requires offset-requires size-requires add-if1 same-length
-    returns add-if2 same-length-2 returns-2 carry-requires mul-put4 add-put4 put4-requires sub-a add-q add-c add-j loop-less loop-again
-    add-move-down sub-move-down add-move-down-2 move-down-requires put4-requires-2 same-length-3 returns-3)
+    Inv-loop μ-loop (λ c. (omega arith, run-none _ _ _ _)) (λ c. search needs) (λ c. omega arith) (λ c κs. search needs) offset-requires
+    size-requires (λ c. omega arith) (λ c. omega arith) returns (λ c. omega arith) (λ c. omega arith) returns-2 (λ c κs. omega arith)
+    mul-put4 add-put4 put4-requires sub-a add-q (λ c. omega arith) (λ c. omega arith) (λ c. omega arith) loop-again (λ c. omega arith)
+    (λ c. omega arith) (λ c. omega arith) (λ c κs. omega arith) (λ c κs. omega arith) (λ c. omega arith) returns-3)

@@ -7,60 +7,59 @@ use borrow.Author.Needs.{needs}
 use Rattle.streams.proofs.calls.write_relationships.Statement.{statement}
 use Rattle.streams.proofs.calls.write_relationships.Tie as tie
 
-is-package-requires : tie.Need-is-package-requires
-is-package-requires c κs = search needs
-
 returns : tie.Need-returns
-returns c = prints-foreign _ (closed _ _ (c .before .is-package .ensures) (c .if1 .taken)) (WriteRelationships (now (c .before .before .before .before .before .args .source))) (now (c .before .before .before .before .before .args .out))
-
-source-refusal-requires : tie.Need-source-refusal-requires
-source-refusal-requires c κs = search needs
+returns c =
+    let at-is-package = c .before in
+    let args = at-is-package .before .before .before .before .args in
+    prints-foreign _ (closed _ _ (at-is-package .is-package .ensures) (c .if1 .taken)) (WriteRelationships (now (args .source)))
+    (now (args .out))
 
 returns-2 : tie.Need-returns-2
-returns-2 c = relationships-refused _ (opened _ _ (c .before .before .before .is-package .ensures) (c .before .before .if1 .left)) (now (c .before .before .before .before .before .before .before .args .source)) (now (c .before .before .before .before .before .before .before .args .out)) _ (c .before .source-refusal .ensures) (c .if2 .taken)
-
-slice-aggregate-bound : tie.Need-slice-aggregate-bound
-slice-aggregate-bound c = search needs
+returns-2 c =
+    let at-source-refusal = c .before in
+    let at-if1 = at-source-refusal .before in
+    let at-is-package = at-if1 .before in
+    let args = at-is-package .before .before .before .before .args in
+    relationships-refused _ (opened _ _ (at-is-package .is-package .ensures) (at-if1 .if1 .left)) (now (args .source)) (now (args .out)) _
+    (at-source-refusal .source-refusal .ensures) (c .if2 .taken)
 
 bound-requires : tie.Need-bound-requires
-bound-requires c κs = opened-shape _ _ (c .before .before .before .before .is-package .ensures) (c .before .before .before .if1 .left) .few
-
-slice-aggregate-bound-2 : tie.Need-slice-aggregate-bound-2
-slice-aggregate-bound-2 c = search needs
+bound-requires c κs =
+    let at-if1 = c .before .before .before in
+    let is-package = at-if1 .before .is-package in
+    opened-shape _ _ (is-package .ensures) (at-if1 .if1 .left) .few
 
 bound-requires-2 : tie.Need-bound-requires-2
-bound-requires-2 c κs = opened-shape _ _ (c .before .before .before .before .before .before .is-package .ensures) (c .before .before .before .before .before .if1 .left) .few
-
-slice-aggregate-write-stream : tie.Need-slice-aggregate-write-stream
-slice-aggregate-write-stream c = search needs
-
-slice-aggregate-write-stream-2 : tie.Need-slice-aggregate-write-stream-2
-slice-aggregate-write-stream-2 c = search needs
+bound-requires-2 c κs =
+    let at-if1 = c .before .before .before .before .before in
+    let is-package = at-if1 .before .is-package in
+    opened-shape _ _ (is-package .ensures) (at-if1 .if1 .left) .few
 
 write-stream-requires : tie.Need-write-stream-requires
 write-stream-requires c κs =
-    (opened-shape _ _ (c .before .before .before .before .before .before .before .before .before .before .is-package .ensures) (c .before .before .before .before .before .before .before .before .before .if1 .left), c .before .before .before .bound2 .ensures .within, omega arith, omega arith)
-
-same-length : tie.Need-same-length
-same-length c = search needs
+    let at-bound2 = c .before .before .before in
+    let at-if1 = at-bound2 .before .before .before .before .before .before in
+    let at-is-package = at-if1 .before in
+    (opened-shape _ _ (at-is-package .is-package .ensures) (at-if1 .if1 .left), at-bound2 .bound2 .ensures .within, omega arith, omega
+    arith)
 
 returns-3 : tie.Need-returns-3
-returns-3 c = relationships-written _ (opened _ _ (c .before .before .before .before .before .before .before .before .before .before .before .before .before .is-package .ensures) (c .before .before .before .before .before .before .before .before .before .before .before .before .if1 .left)) (now (c .before .before .before .before .before .before .before .before .before .before .before .before .before .before .before .before .before .args .source)) (now (c .before .before .before .before .before .before .before .before .before .before .before .before .before .before .before .before .before .args .out)) _ (c .before .before .before .before .before .before .before .before .before .before .before .source-refusal .ensures) (c .before .before .before .before .before .before .before .before .before .before .if2 .left) _ _ (c .before .before .before .before .before .before .before .before .bound .ensures) (c .before .before .before .before .before .before .bound2 .ensures) _ (c .before .before .write-stream .ensures)
+returns-3 c =
+    let at-write-stream = c .before .before in
+    let at-bound2 = at-write-stream .before .before .before .before in
+    let at-bound = at-bound2 .before .before in
+    let at-if2 = at-bound .before .before in
+    let at-source-refusal = at-if2 .before in
+    let at-if1 = at-source-refusal .before in
+    let at-is-package = at-if1 .before in
+    let args = at-is-package .before .before .before .before .args in
+    relationships-written _ (opened _ _ (at-is-package .is-package .ensures) (at-if1 .if1 .left)) (now (args .source)) (now (args .out)) _
+    (at-source-refusal .source-refusal .ensures) (at-if2 .if2 .left) _ _ (at-bound .bound .ensures) (at-bound2 .bound2 .ensures) _
+    (at-write-stream .write-stream .ensures)
 
 pub write-relationships-spec : {M : Type 1} → statement M
 write-relationships-spec =
     tie.close
     (tie.spec
-    is-package-requires
-    returns
-    source-refusal-requires
-    returns-2
-    slice-aggregate-bound
-    bound-requires
-    slice-aggregate-bound-2
-    bound-requires-2
-    slice-aggregate-write-stream
-    slice-aggregate-write-stream-2
-    write-stream-requires
-    same-length
-    returns-3)
+    (λ c κs. search needs) returns (λ c κs. search needs) returns-2 (λ c. search needs) bound-requires (λ c. search needs) bound-requires-2
+    (λ c. search needs) (λ c. search needs) write-stream-requires (λ c. search needs) returns-3)

@@ -3,35 +3,18 @@ use borrow.Author.Needs.{needs}
 use Rattle.streams.proofs.listing.put_stream.Statement.{statement}
 use Rattle.streams.proofs.listing.put_stream.Tie as tie
 
-slice-aggregate-emit : tie.Need-slice-aggregate-emit
-slice-aggregate-emit c = search needs
-
-emit-requires : tie.Need-emit-requires
-emit-requires c κs = search needs
-
-emit-requires-2 : tie.Need-emit-requires-2
-emit-requires-2 c κs = search needs
-
-put-lines-requires : tie.Need-put-lines-requires
-put-lines-requires c κs = search needs
-
-emit-requires-3 : tie.Need-emit-requires-3
-emit-requires-3 c κs = search needs
-
-same-length : tie.Need-same-length
-same-length c = search needs
-
 returns : tie.Need-returns
-returns c = streamed _ _ _ _ _ _ _ _ _ _ _ _ _ _ (c .before .before .before .before .before .before .before .before .before .before .before .before .before .before .emit .kept .0) (c .before .before .before .before .before .before .before .before .before .before .emit2 .kept .0) (c .before .before .before .before .before .before .put-lines .kept .1 .1 .1 .0) (c .before .before .before .before .before .before .before .before .before .before .before .before .before .before .emit .ensures) (c .before .before .before .before .before .before .before .before .before .before .emit2 .ensures) (c .before .before .before .before .before .before .put-lines .ensures) (c .before .before .emit3 .ensures)
+returns c =
+    let at-emit3 = c .before .before in
+    let at-put-lines = at-emit3 .before .before .before .before in
+    let at-emit2 = at-put-lines .before .before .before .before in
+    let emit = at-emit2 .before .before .before .before .emit in
+    streamed _ _ _ _ _ _ _ _ _ _ _ _ _ _ (emit .kept .0) (at-emit2 .emit2 .kept .0) (at-put-lines .put-lines .kept .1 .1 .1 .0)
+    (emit .ensures) (at-emit2 .emit2 .ensures) (at-put-lines .put-lines .ensures) (at-emit3 .emit3 .ensures)
 
 pub put-stream-spec : {M : Type 1} → statement M
 put-stream-spec =
     tie.close
     (tie.spec
-    slice-aggregate-emit
-    emit-requires
-    emit-requires-2
-    put-lines-requires
-    emit-requires-3
-    same-length
+    (λ c. search needs) (λ c κs. search needs) (λ c κs. search needs) (λ c κs. search needs) (λ c κs. search needs) (λ c. search needs)
     returns)

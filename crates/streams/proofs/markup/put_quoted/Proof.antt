@@ -19,77 +19,69 @@ Inv-loop out₀ from s at₀ i₀ k₀ out at i k = (i ≤ length s) × (k ≡ i
 abbrev μ-loop : tie.MeasureT-loop
 μ-loop out₀ from s at₀ i₀ k₀ out at i k = length s - i
 
-find-requires : tie.Need-find-requires Inv-loop μ-loop
-find-requires c κs = search needs
-
 loop-holds : tie.Need-loop-holds Inv-loop μ-loop
 unfolding quoted joined
 loop-holds c = (omega arith, c .find .ensures, refl, sent-none _ _)
 
 sub-put-stretch : tie.Need-sub-put-stretch Inv-loop μ-loop
-sub-put-stretch c = let w = c .before .before .loop in next-from _ (w .i) (w .k) (w .inv .1) (w .inv .0)
-
-part-put-stretch-start : tie.Need-part-put-stretch-start Inv-loop μ-loop
-part-put-stretch-start c = search needs
-
-part-put-stretch-end : tie.Need-part-put-stretch-end Inv-loop μ-loop
-part-put-stretch-end c = search needs
+sub-put-stretch c =
+    let w = c .before .before .loop in
+    next-from _ (w .i) (w .k) (w .inv .1) (w .inv .0)
 
 put-stretch-requires : tie.Need-put-stretch-requires Inv-loop μ-loop
-put-stretch-requires c κs = let w = c .before .before .before .loop in (omega (arith, taken-near _ _ (now (c .before .before .before .before .before .before .before .args .s)) (w .i) _ _ (w .inv .3), c .before .before .before .before .before .before .before .pre .0, c .before .before .before .before .before .before .before .pre .1), omega (arith, stretch-length (now (c .before .before .before .before .before .before .before .args .s)) (w .i) (w .k) (w .inv .1) (w .inv .0), c .before .before .before .before .before .before .before .pre .1, c .before .before .loop-test .taken))
-
-add-i : tie.Need-add-i Inv-loop μ-loop
-add-i c = search needs
-
-find-requires-2 : tie.Need-find-requires-2 Inv-loop μ-loop
-find-requires-2 c κs = search needs
+put-stretch-requires c κs =
+    let at-loop-test = c .before .before in
+    let at-loop = at-loop-test .before in
+    let at-args = at-loop .before .before .before .before in
+    let w = at-loop .loop in
+    (omega (arith, taken-near _ _ (now (at-args .args .s)) (w .i) _ _ (w .inv .3), at-args .pre .0, at-args .pre .1), omega
+    (arith, stretch-length (now (at-args .args .s)) (w .i) (w .k) (w .inv .1) (w .inv .0), at-args .pre .1, at-loop-test .loop-test .taken))
 
 loop-less : tie.Need-loop-less Inv-loop μ-loop
-loop-less c = let w = c .before .before .before .before .before .before .before .loop in omega (arith, w .inv .0, next-from (now (c .before .before .before .before .before .before .before .before .before .before .before .args .s)) (w .i) (w .k) (w .inv .1) (w .inv .0), c .before .before .before .before .before .before .loop-test .taken)
+loop-less c =
+    let at-loop-test = c .before .before .before .before .before .before in
+    let at-loop = at-loop-test .before in
+    let at-args = at-loop .before .before .before .before in
+    let w = at-loop .loop in
+    omega (arith, w .inv .0, next-from (now (at-args .args .s)) (w .i) (w .k) (w .inv .1) (w .inv .0), at-loop-test .loop-test .taken)
 
 loop-again : tie.Need-loop-again Inv-loop μ-loop
 loop-again c =
-    let w = c .before .before .before .before .before .before .before .loop in
-    let x = c .before .before .before .put-stretch in
-    (omega (arith, c .before .before .before .before .before .before .loop-test .taken), c .find2 .ensures, omega (arith, x .kept .0, w .inv .2), sent-stretch (now (c .before .before .before .before .before .before .before .before .before .before .before .args .s)) (w .i) (w .k) (w .inv .1) (w .inv .0) (c .before .before .before .before .before .before .loop-test .taken) _ _ _ _ _ _ (w .inv .2) (w .inv .3) (x .ensures))
+    let at-put-stretch = c .before .before .before in
+    let at-loop-test = at-put-stretch .before .before .before in
+    let at-loop = at-loop-test .before in
+    let at-args = at-loop .before .before .before .before in
+    let w = at-loop .loop in
+    let x = at-put-stretch .put-stretch in
+    (omega (arith, at-loop-test .loop-test .taken), c .find2 .ensures, omega (arith, x .kept .0, w .inv .2), sent-stretch
+    (now (at-args .args .s)) (w .i) (w .k) (w .inv .1) (w .inv .0) (at-loop-test .loop-test .taken) _ _ _ _ _ _ (w .inv .2) (w .inv .3)
+    (x .ensures))
 
 sub-emit : tie.Need-sub-emit Inv-loop μ-loop
 sub-emit c = c .before .before .loop .inv .0
 
-part-emit-start : tie.Need-part-emit-start Inv-loop μ-loop
-part-emit-start c = search needs
-
-part-emit-end : tie.Need-part-emit-end Inv-loop μ-loop
-part-emit-end c = search needs
-
 emit-requires : tie.Need-emit-requires Inv-loop μ-loop
-emit-requires c κs = let w = c .before .before .before .loop in (omega (arith, taken-near _ _ (now (c .before .before .before .before .before .before .before .args .s)) (w .i) _ _ (w .inv .3), c .before .before .before .before .before .before .before .pre .0, c .before .before .before .before .before .before .before .pre .1), simp (length-take, length-drop) (omega (arith, c .before .before .before .before .before .before .before .pre .1)))
-
-same-length : tie.Need-same-length Inv-loop μ-loop
-same-length c = search needs
+emit-requires c κs =
+    let at-loop = c .before .before .before in
+    let at-args = at-loop .before .before .before .before in
+    let w = at-loop .loop in
+    (omega (arith, taken-near _ _ (now (at-args .args .s)) (w .i) _ _ (w .inv .3), at-args .pre .0, at-args .pre .1), simp
+    (length-take, length-drop) (omega (arith, at-args .pre .1)))
 
 returns : tie.Need-returns Inv-loop μ-loop
-returns c = let w = c .before .before .before .before .before .before .loop in sent-rest (now (c .before .before .before .before .before .before .before .before .before .before .args .s)) (w .i) (w .k) (w .inv .1) (w .inv .0) (c .before .before .before .before .before .loop-test .left) _ _ _ _ _ _ (w .inv .2) (w .inv .3) (c .before .before .emit .ensures)
+returns c =
+    let at-emit = c .before .before in
+    let at-loop-test = at-emit .before .before .before in
+    let at-loop = at-loop-test .before in
+    let args = at-loop .before .before .before .before .args in
+    let w = at-loop .loop in
+    sent-rest (now (args .s)) (w .i) (w .k) (w .inv .1) (w .inv .0) (at-loop-test .loop-test .left) _ _ _ _ _ _ (w .inv .2) (w .inv .3)
+    (at-emit .emit .ensures)
 
 pub put-quoted-spec : {M : Type 1} → statement M
 put-quoted-spec =
     tie.close
     (tie.spec
-    Inv-loop
-    μ-loop
-    find-requires
-    loop-holds
-    sub-put-stretch
-    part-put-stretch-start
-    part-put-stretch-end
-    put-stretch-requires
-    add-i
-    find-requires-2
-    loop-less
-    loop-again
-    sub-emit
-    part-emit-start
-    part-emit-end
-    emit-requires
-    same-length
-    returns)
+    Inv-loop μ-loop (λ c κs. search needs) loop-holds sub-put-stretch (λ c. search needs) (λ c. search needs) put-stretch-requires
+    (λ c. search needs) (λ c κs. search needs) loop-less loop-again sub-emit (λ c. search needs) (λ c. search needs) emit-requires
+    (λ c. search needs) returns)

@@ -6,43 +6,49 @@ use borrow.Author.Needs.{needs}
 use Rattle.streams.proofs.markup.put_type.Statement.{statement}
 use Rattle.streams.proofs.markup.put_type.Tie as tie
 
-emit-requires : tie.Need-emit-requires
-emit-requires c κs = search needs
-
-put-quoted-requires : tie.Need-put-quoted-requires
-put-quoted-requires c κs = search needs
-
-slice-aggregate-emit : tie.Need-slice-aggregate-emit
-slice-aggregate-emit c = search needs
-
 emit-requires-2 : tie.Need-emit-requires-2
-emit-requires-2 c κs = (omega (arith, c .before .before .before .before .before .before .before .before .before .before .before .before .before .before .pre .0, c .before .before .before .before .before .before .before .before .before .before .before .before .before .before .pre .1, c .before .before .before .before .before .before .before .before .before .before .before .before .before .before .pre .2, c .before .before .before .before .before .before .before .before .before .before .before .before .before .before .pre .3, c .before .before .before .before .before .before .before .before .emit .ensures .next-is, quoted-near _ _ (now (c .before .before .before .before .before .before .before .before .before .before .before .before .before .before .args .key)) _ _ (c .before .before .before .before .put-quoted .ensures)), omega arith)
+emit-requires-2 c κs =
+    let at-put-quoted = c .before .before .before .before in
+    let at-emit = at-put-quoted .before .before .before .before in
+    let at-pre = at-emit .before .before .before .before .before .before in
+    (omega (arith, at-pre .pre .0, at-pre .pre .1, at-pre .pre .2, at-pre .pre .3, at-emit .emit .ensures .next-is, quoted-near _ _
+    (now (at-pre .args .key)) _ _ (at-put-quoted .put-quoted .ensures)), omega arith)
 
 put-quoted-requires-2 : tie.Need-put-quoted-requires-2
-put-quoted-requires-2 c κs = (omega (arith, c .before .before .before .before .before .before .before .before .before .before .before .before .before .before .before .before .before .before .pre .0, c .before .before .before .before .before .before .before .before .before .before .before .before .before .before .before .before .before .before .pre .1, c .before .before .before .before .before .before .before .before .before .before .before .before .before .before .before .before .before .before .pre .2, c .before .before .before .before .before .before .before .before .before .before .before .before .before .before .before .before .before .before .pre .3, c .before .before .before .before .before .before .before .before .before .before .before .before .emit .ensures .next-is, quoted-near _ _ (now (c .before .before .before .before .before .before .before .before .before .before .before .before .before .before .before .before .before .before .args .key)) _ _ (c .before .before .before .before .before .before .before .before .put-quoted .ensures), c .before .before .before .emit2 .ensures .next-is), c .before .before .before .before .before .before .before .before .before .before .before .before .before .before .before .before .before .before .pre .3)
-
-slice-aggregate-emit-2 : tie.Need-slice-aggregate-emit-2
-slice-aggregate-emit-2 c = search needs
+put-quoted-requires-2 c κs =
+    let at-emit2 = c .before .before .before in
+    let at-put-quoted = at-emit2 .before .before .before .before .before in
+    let at-emit = at-put-quoted .before .before .before .before in
+    let at-pre = at-emit .before .before .before .before .before .before in
+    (omega (arith, at-pre .pre .0, at-pre .pre .1, at-pre .pre .2, at-pre .pre .3, at-emit .emit .ensures .next-is, quoted-near _ _
+    (now (at-pre .args .key)) _ _ (at-put-quoted .put-quoted .ensures), at-emit2 .emit2 .ensures .next-is), at-pre .pre .3)
 
 emit-requires-3 : tie.Need-emit-requires-3
-emit-requires-3 c κs = (omega (arith, c .before .before .before .before .before .before .before .before .before .before .before .before .before .before .before .before .before .before .before .before .before .before .before .pre .0, c .before .before .before .before .before .before .before .before .before .before .before .before .before .before .before .before .before .before .before .before .before .before .before .pre .1, c .before .before .before .before .before .before .before .before .before .before .before .before .before .before .before .before .before .before .before .before .before .before .before .pre .2, c .before .before .before .before .before .before .before .before .before .before .before .before .before .before .before .before .before .before .before .before .before .before .before .pre .3, c .before .before .before .before .before .before .before .before .before .before .before .before .before .before .before .before .before .emit .ensures .next-is, quoted-near _ _ (now (c .before .before .before .before .before .before .before .before .before .before .before .before .before .before .before .before .before .before .before .before .before .before .before .args .key)) _ _ (c .before .before .before .before .before .before .before .before .before .before .before .before .before .put-quoted .ensures), c .before .before .before .before .before .before .before .before .emit2 .ensures .next-is, quoted-near _ _ (now (c .before .before .before .before .before .before .before .before .before .before .before .before .before .before .before .before .before .before .before .before .before .before .before .args .media)) _ _ (c .before .before .before .before .put-quoted2 .ensures)), omega arith)
-
-same-length : tie.Need-same-length
-same-length c = search needs
+emit-requires-3 c κs =
+    let at-put-quoted2 = c .before .before .before .before in
+    let at-emit2 = at-put-quoted2 .before .before .before .before in
+    let at-put-quoted = at-emit2 .before .before .before .before .before in
+    let at-emit = at-put-quoted .before .before .before .before in
+    let at-pre = at-emit .before .before .before .before .before .before in
+    (omega (arith, at-pre .pre .0, at-pre .pre .1, at-pre .pre .2, at-pre .pre .3, at-emit .emit .ensures .next-is, quoted-near _ _
+    (now (at-pre .args .key)) _ _ (at-put-quoted .put-quoted .ensures), at-emit2 .emit2 .ensures .next-is, quoted-near _ _
+    (now (at-pre .args .media)) _ _ (at-put-quoted2 .put-quoted2 .ensures)), omega arith)
 
 returns : tie.Need-returns
-returns c = sent-type _ _ _ _ _ _ _ _ _ _ _ _ (c .before .before .before .before .before .before .before .before .before .before .before .before .before .before .before .before .before .before .before .before .emit .kept .0) (c .before .before .before .before .before .before .before .before .before .before .before .before .before .before .before .before .put-quoted .kept .0) (c .before .before .before .before .before .before .before .before .before .before .before .emit2 .kept .0) (c .before .before .before .before .before .before .before .put-quoted2 .kept .0) (now (c .before .before .before .before .before .before .before .before .before .before .before .before .before .before .before .before .before .before .before .before .before .before .before .before .before .before .args .head)) (now (c .before .before .before .before .before .before .before .before .before .before .before .before .before .before .before .before .before .before .before .before .before .before .before .before .before .before .args .key)) (now (c .before .before .before .before .before .before .before .before .before .before .before .before .before .before .before .before .before .before .before .before .before .before .before .before .before .before .args .media)) (c .before .before .before .before .before .before .before .before .before .before .before .before .before .before .before .before .before .before .before .before .emit .ensures) (c .before .before .before .before .before .before .before .before .before .before .before .before .before .before .before .before .put-quoted .ensures) (c .before .before .before .before .before .before .before .before .before .before .before .emit2 .ensures) (c .before .before .before .before .before .before .before .put-quoted2 .ensures) (c .before .before .emit3 .ensures)
+returns c =
+    let at-emit3 = c .before .before in
+    let at-put-quoted2 = at-emit3 .before .before .before .before .before in
+    let at-emit2 = at-put-quoted2 .before .before .before .before in
+    let at-put-quoted = at-emit2 .before .before .before .before .before in
+    let at-emit = at-put-quoted .before .before .before .before in
+    let args = at-emit .before .before .before .before .before .before .args in
+    sent-type _ _ _ _ _ _ _ _ _ _ _ _ (at-emit .emit .kept .0) (at-put-quoted .put-quoted .kept .0) (at-emit2 .emit2 .kept .0)
+    (at-put-quoted2 .put-quoted2 .kept .0) (now (args .head)) (now (args .key)) (now (args .media)) (at-emit .emit .ensures)
+    (at-put-quoted .put-quoted .ensures) (at-emit2 .emit2 .ensures) (at-put-quoted2 .put-quoted2 .ensures) (at-emit3 .emit3 .ensures)
 
 pub put-type-spec : {M : Type 1} → statement M
 put-type-spec =
     tie.close
     (tie.spec
-    emit-requires
-    put-quoted-requires
-    slice-aggregate-emit
-    emit-requires-2
-    put-quoted-requires-2
-    slice-aggregate-emit-2
-    emit-requires-3
-    same-length
-    returns)
+    (λ c κs. search needs) (λ c κs. search needs) (λ c. search needs) emit-requires-2 put-quoted-requires-2 (λ c. search needs)
+    emit-requires-3 (λ c. search needs) returns)

@@ -6,47 +6,39 @@ use borrow.Author.Needs.{needs}
 use Rattle.types.proofs.calls.drop_default.Statement.{statement}
 use Rattle.types.proofs.calls.drop_default.Tie as tie
 
-is-package-requires : tie.Need-is-package-requires
-is-package-requires c κs = search needs
-
-same-length : tie.Need-same-length
-same-length c = search needs
-
 returns : tie.Need-returns
-returns c = changes-foreign _ (closed _ _ (c .before .is-package .ensures) (c .if1 .taken)) (DropDefault (c .before .before .before .before .before .args .extension .now))
-
-is-extension-requires : tie.Need-is-extension-requires
-is-extension-requires c κs = search needs
-
-same-length-2 : tie.Need-same-length-2
-same-length-2 c = search needs
+returns c =
+    let at-is-package = c .before in
+    let args = at-is-package .before .before .before .before .args in
+    changes-foreign _ (closed _ _ (at-is-package .is-package .ensures) (c .if1 .taken)) (DropDefault (args .extension .now))
 
 returns-2 : tie.Need-returns-2
-returns-2 c = drop-refused defaults _ (opened _ _ (c .before .before .before .is-package .ensures) (c .before .before .if1 .left)) _ _ (c .before .is-extension .ensures) (c .if2 .taken)
-
-slice-aggregate-drop-row : tie.Need-slice-aggregate-drop-row
-slice-aggregate-drop-row c = search needs
+returns-2 c =
+    let at-is-extension = c .before in
+    let at-if1 = at-is-extension .before in
+    let is-package = at-if1 .before .is-package in
+    drop-refused defaults _ (opened _ _ (is-package .ensures) (at-if1 .if1 .left)) _ _ (at-is-extension .is-extension .ensures)
+    (c .if2 .taken)
 
 drop-row-requires : tie.Need-drop-row-requires
-drop-row-requires c κs = tested-shape _ _ (c .before .before .before .before .before .is-package .ensures) (c .before .before .before .before .if1 .left)
-
-same-length-3 : tie.Need-same-length-3
-same-length-3 c = search needs
+drop-row-requires c κs =
+    let at-if1 = c .before .before .before .before in
+    let is-package = at-if1 .before .is-package in
+    tested-shape _ _ (is-package .ensures) (at-if1 .if1 .left)
 
 returns-3 : tie.Need-returns-3
-returns-3 c = drop-ran defaults _ (opened _ _ (c .before .before .before .before .before .before .before .before .is-package .ensures) (c .before .before .before .before .before .before .before .if1 .left)) _ _ (c .before .before .before .before .before .before .is-extension .ensures) (c .before .before .before .before .before .if2 .left) _ _ (c .before .before .drop-row .kept .0) (c .before .before .drop-row .ensures)
+returns-3 c =
+    let at-drop-row = c .before .before in
+    let at-if2 = at-drop-row .before .before .before in
+    let at-is-extension = at-if2 .before in
+    let at-if1 = at-is-extension .before in
+    let is-package = at-if1 .before .is-package in
+    drop-ran defaults _ (opened _ _ (is-package .ensures) (at-if1 .if1 .left)) _ _ (at-is-extension .is-extension .ensures)
+    (at-if2 .if2 .left) _ _ (at-drop-row .drop-row .kept .0) (at-drop-row .drop-row .ensures)
 
 pub drop-default-spec : {M : Type 1} → statement M
 drop-default-spec =
     tie.close
     (tie.spec
-    is-package-requires
-    same-length
-    returns
-    is-extension-requires
-    same-length-2
-    returns-2
-    slice-aggregate-drop-row
-    drop-row-requires
-    same-length-3
-    returns-3)
+    (λ c κs. search needs) (λ c. search needs) returns (λ c κs. search needs) (λ c. search needs) returns-2 (λ c. search needs)
+    drop-row-requires (λ c. search needs) returns-3)

@@ -7,63 +7,59 @@ use borrow.Author.Needs.{needs}
 use Rattle.types.proofs.calls.put_default.Statement.{statement}
 use Rattle.types.proofs.calls.put_default.Tie as tie
 
-is-package-requires : tie.Need-is-package-requires
-is-package-requires c κs = search needs
-
-same-length : tie.Need-same-length
-same-length c = search needs
-
 returns : tie.Need-returns
-returns c = changes-foreign _ (closed _ _ (c .before .is-package .ensures) (c .if1 .taken)) (PutDefault (c .before .before .before .before .before .before .args .extension .now) (c .before .before .before .before .before .before .args .media .now))
-
-is-extension-requires : tie.Need-is-extension-requires
-is-extension-requires c κs = search needs
-
-same-length-2 : tie.Need-same-length-2
-same-length-2 c = search needs
+returns c =
+    let at-is-package = c .before in
+    let args = at-is-package .before .before .before .before .before .args in
+    changes-foreign _ (closed _ _ (at-is-package .is-package .ensures) (c .if1 .taken))
+    (PutDefault (args .extension .now) (args .media .now))
 
 returns-2 : tie.Need-returns-2
-returns-2 c = put-refused defaults _ (opened _ _ (c .before .before .before .is-package .ensures) (c .before .before .if1 .left)) _ _ (c .before .is-extension .ensures) (c .before .before .before .before .before .before .before .before .args .media .now) (c .if2 .taken)
-
-is-media-type-requires : tie.Need-is-media-type-requires
-is-media-type-requires c κs = search needs
-
-same-length-3 : tie.Need-same-length-3
-same-length-3 c = search needs
+returns-2 c =
+    let at-is-extension = c .before in
+    let at-if1 = at-is-extension .before in
+    let at-is-package = at-if1 .before in
+    let args = at-is-package .before .before .before .before .before .args in
+    put-refused defaults _ (opened _ _ (at-is-package .is-package .ensures) (at-if1 .if1 .left)) _ _
+    (at-is-extension .is-extension .ensures) (args .media .now) (c .if2 .taken)
 
 returns-3 : tie.Need-returns-3
-returns-3 c = put-untyped defaults _ (opened _ _ (c .before .before .before .before .before .is-package .ensures) (c .before .before .before .before .if1 .left)) _ _ (c .before .before .before .is-extension .ensures) (c .before .before .if2 .left) _ _ (c .before .is-media-type .ensures) (c .if3 .taken)
-
-slice-aggregate-put-row : tie.Need-slice-aggregate-put-row
-slice-aggregate-put-row c = search needs
-
-slice-aggregate-put-row-2 : tie.Need-slice-aggregate-put-row-2
-slice-aggregate-put-row-2 c = search needs
+returns-3 c =
+    let at-is-media-type = c .before in
+    let at-if2 = at-is-media-type .before in
+    let at-is-extension = at-if2 .before in
+    let at-if1 = at-is-extension .before in
+    let is-package = at-if1 .before .is-package in
+    put-untyped defaults _ (opened _ _ (is-package .ensures) (at-if1 .if1 .left)) _ _ (at-is-extension .is-extension .ensures)
+    (at-if2 .if2 .left) _ _ (at-is-media-type .is-media-type .ensures) (c .if3 .taken)
 
 put-row-requires : tie.Need-put-row-requires
-put-row-requires c κs = (tested-shape _ _ (c .before .before .before .before .before .before .before .before .is-package .ensures) (c .before .before .before .before .before .before .before .if1 .left), (text-some defaults _ (opened _ _ (c .before .before .before .before .before .before .before .before .is-package .ensures) (c .before .before .before .before .before .before .before .if1 .left)) _ _ (c .before .before .before .before .before .before .is-extension .ensures) (c .before .before .before .before .before .if2 .left), omega arith))
-
-same-length-4 : tie.Need-same-length-4
-same-length-4 c = search needs
+put-row-requires c κs =
+    let at-if2 = c .before .before .before .before .before in
+    let at-is-extension = at-if2 .before in
+    let at-if1 = at-is-extension .before in
+    let at-is-package = at-if1 .before in
+    (tested-shape _ _ (at-is-package .is-package .ensures) (at-if1 .if1 .left),
+    (text-some defaults _ (opened _ _ (at-is-package .is-package .ensures) (at-if1 .if1 .left)) _ _ (at-is-extension .is-extension .ensures)
+    (at-if2 .if2 .left), omega arith))
 
 returns-4 : tie.Need-returns-4
-returns-4 c = put-ran defaults _ (opened _ _ (c .before .before .before .before .before .before .before .before .before .before .before .is-package .ensures) (c .before .before .before .before .before .before .before .before .before .before .if1 .left)) _ _ (c .before .before .before .before .before .before .before .before .before .is-extension .ensures) (c .before .before .before .before .before .before .before .before .if2 .left) (c .before .before .before .before .before .before .before .before .before .before .before .before .before .before .before .before .args .media .now) _ (c .before .before .before .before .before .before .before .is-media-type .ensures) (c .before .before .before .before .before .before .if3 .left) _ _ (c .before .before .put-row .kept .0) (c .before .before .put-row .ensures)
+returns-4 c =
+    let at-put-row = c .before .before in
+    let at-if3 = at-put-row .before .before .before .before in
+    let at-is-media-type = at-if3 .before in
+    let at-if2 = at-is-media-type .before in
+    let at-is-extension = at-if2 .before in
+    let at-if1 = at-is-extension .before in
+    let at-is-package = at-if1 .before in
+    let args = at-is-package .before .before .before .before .before .args in
+    put-ran defaults _ (opened _ _ (at-is-package .is-package .ensures) (at-if1 .if1 .left)) _ _ (at-is-extension .is-extension .ensures)
+    (at-if2 .if2 .left) (args .media .now) _ (at-is-media-type .is-media-type .ensures) (at-if3 .if3 .left) _ _
+    (at-put-row .put-row .kept .0) (at-put-row .put-row .ensures)
 
 pub put-default-spec : {M : Type 1} → statement M
 put-default-spec =
     tie.close
     (tie.spec
-    is-package-requires
-    same-length
-    returns
-    is-extension-requires
-    same-length-2
-    returns-2
-    is-media-type-requires
-    same-length-3
-    returns-3
-    slice-aggregate-put-row
-    slice-aggregate-put-row-2
-    put-row-requires
-    same-length-4
-    returns-4)
+    (λ c κs. search needs) (λ c. search needs) returns (λ c κs. search needs) (λ c. search needs) returns-2 (λ c κs. search needs)
+    (λ c. search needs) returns-3 (λ c. search needs) (λ c. search needs) put-row-requires (λ c. search needs) returns-4)

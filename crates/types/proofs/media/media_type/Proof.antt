@@ -5,59 +5,81 @@ use borrow.Author.Needs.{needs}
 use Rattle.types.proofs.media.media_type.Statement.{statement}
 use Rattle.types.proofs.media.media_type.Tie as tie
 
-is-package-requires : tie.Need-is-package-requires
-is-package-requires c κs = search needs
-
 returns : tie.Need-returns
-returns c = prints-foreign _ (closed _ _ (c .before .is-package .ensures) (c .if1 .taken)) (MediaType (c .before .before .before .before .before .args .name .now)) (c .before .before .before .before .before .args .out .now)
-
-is-part-name-requires : tie.Need-is-part-name-requires
-is-part-name-requires c κs = search needs
+returns c =
+    let at-is-package = c .before in
+    let args = at-is-package .before .before .before .before .args in
+    prints-foreign _ (closed _ _ (at-is-package .is-package .ensures) (c .if1 .taken)) (MediaType (args .name .now)) (args .out .now)
 
 returns-2 : tie.Need-returns-2
-returns-2 c = type-misnamed _ (opened _ _ (c .before .before .before .is-package .ensures) (c .before .before .if1 .left)) (c .before .before .before .before .before .before .before .args .name .now) (c .before .before .before .before .before .before .before .args .out .now) _ (c .before .is-part-name .ensures) (c .if2 .taken)
+returns-2 c =
+    let at-is-part-name = c .before in
+    let at-if1 = at-is-part-name .before in
+    let at-is-package = at-if1 .before in
+    let args = at-is-package .before .before .before .before .args in
+    type-misnamed _ (opened _ _ (at-is-package .is-package .ensures) (at-if1 .if1 .left)) (args .name .now) (args .out .now) _
+    (at-is-part-name .is-part-name .ensures) (c .if2 .taken)
 
 is-part-requires : tie.Need-is-part-requires
-is-part-requires c κs = opened-shape _ _ (c .before .before .before .is-package .ensures) (c .before .before .if1 .left)
+is-part-requires c κs =
+    let at-if1 = c .before .before in
+    let is-package = at-if1 .before .is-package in
+    opened-shape _ _ (is-package .ensures) (at-if1 .if1 .left)
 
 returns-3 : tie.Need-returns-3
-returns-3 c = type-missing _ (opened _ _ (c .before .before .before .before .before .is-package .ensures) (c .before .before .before .before .if1 .left)) (c .before .before .before .before .before .before .before .before .before .args .name .now) (c .before .before .before .before .before .before .before .before .before .args .out .now) _ (c .before .before .before .is-part-name .ensures) (c .before .before .if2 .left) _ (c .before .is-part .ensures) (c .if3 .taken)
+returns-3 c =
+    let at-is-part = c .before in
+    let at-if2 = at-is-part .before in
+    let at-is-part-name = at-if2 .before in
+    let at-if1 = at-is-part-name .before in
+    let at-is-package = at-if1 .before in
+    let args = at-is-package .before .before .before .before .args in
+    type-missing _ (opened _ _ (at-is-package .is-package .ensures) (at-if1 .if1 .left)) (args .name .now) (args .out .now) _
+    (at-is-part-name .is-part-name .ensures) (at-if2 .if2 .left) _ (at-is-part .is-part .ensures) (c .if3 .taken)
 
 type-row-requires : tie.Need-type-row-requires
-type-row-requires c κs = opened-shape _ _ (c .before .before .before .before .before .is-package .ensures) (c .before .before .before .before .if1 .left)
-
-count-requires : tie.Need-count-requires
-count-requires c κs = search needs
-
-field-requires : tie.Need-field-requires
-field-requires c κs = search needs
-
-put-all-requires : tie.Need-put-all-requires
-put-all-requires c κs = search needs
-
-same-length : tie.Need-same-length
-same-length c = search needs
+type-row-requires c κs =
+    let at-if1 = c .before .before .before .before in
+    let is-package = at-if1 .before .is-package in
+    opened-shape _ _ (is-package .ensures) (at-if1 .if1 .left)
 
 returns-4 : tie.Need-returns-4
-returns-4 c = type-written _ (opened _ _ (c .before .before .before .before .before .before .before .before .before .before .before .before .before .is-package .ensures) (c .before .before .before .before .before .before .before .before .before .before .before .before .if1 .left)) (c .before .before .before .before .before .before .before .before .before .before .before .before .before .before .before .before .before .args .name .now) (c .before .before .before .before .before .before .before .before .before .before .before .before .before .before .before .before .before .args .out .now) _ (c .before .before .before .before .before .before .before .before .before .before .before .is-part-name .ensures) (c .before .before .before .before .before .before .before .before .before .before .if2 .left) _ (c .before .before .before .before .before .before .before .before .before .is-part .ensures) (c .before .before .before .before .before .before .before .before .if3 .left) _ _ (c .before .before .before .before .before .before .before .type-row .ensures) (c .before .before .before .before .before .before .count .ensures .0) (c .before .before .before .before .before .if4 .taken) _ (c .before .before .before .before .field .ensures .2) _ (c .before .before .put-all .ensures)
+returns-4 c =
+    let at-put-all = c .before .before in
+    let at-field = at-put-all .before .before in
+    let at-if4 = at-field .before in
+    let at-count = at-if4 .before in
+    let at-type-row = at-count .before in
+    let at-if3 = at-type-row .before in
+    let at-is-part = at-if3 .before in
+    let at-if2 = at-is-part .before in
+    let at-is-part-name = at-if2 .before in
+    let at-if1 = at-is-part-name .before in
+    let at-is-package = at-if1 .before in
+    let args = at-is-package .before .before .before .before .args in
+    type-written _ (opened _ _ (at-is-package .is-package .ensures) (at-if1 .if1 .left)) (args .name .now) (args .out .now) _
+    (at-is-part-name .is-part-name .ensures) (at-if2 .if2 .left) _ (at-is-part .is-part .ensures) (at-if3 .if3 .left) _ _
+    (at-type-row .type-row .ensures) (at-count .count .ensures .0) (at-if4 .if4 .taken) _ (at-field .field .ensures .2) _
+    (at-put-all .put-all .ensures)
 
 returns-5 : tie.Need-returns-5
-returns-5 c = type-none _ (opened _ _ (c .before .before .before .before .before .before .before .before .is-package .ensures) (c .before .before .before .before .before .before .before .if1 .left)) (c .before .before .before .before .before .before .before .before .before .before .before .before .args .name .now) (c .before .before .before .before .before .before .before .before .before .before .before .before .args .out .now) _ (c .before .before .before .before .before .before .is-part-name .ensures) (c .before .before .before .before .before .if2 .left) _ (c .before .before .before .before .is-part .ensures) (c .before .before .before .if3 .left) _ _ (c .before .before .type-row .ensures) (c .before .count .ensures .0) (c .if4 .left)
+returns-5 c =
+    let at-count = c .before in
+    let at-type-row = at-count .before in
+    let at-if3 = at-type-row .before in
+    let at-is-part = at-if3 .before in
+    let at-if2 = at-is-part .before in
+    let at-is-part-name = at-if2 .before in
+    let at-if1 = at-is-part-name .before in
+    let at-is-package = at-if1 .before in
+    let args = at-is-package .before .before .before .before .args in
+    type-none _ (opened _ _ (at-is-package .is-package .ensures) (at-if1 .if1 .left)) (args .name .now) (args .out .now) _
+    (at-is-part-name .is-part-name .ensures) (at-if2 .if2 .left) _ (at-is-part .is-part .ensures) (at-if3 .if3 .left) _ _
+    (at-type-row .type-row .ensures) (at-count .count .ensures .0) (c .if4 .left)
 
 pub media-type-spec : {M : Type 1} → statement M
 media-type-spec =
     tie.close
     (tie.spec
-    is-package-requires
-    returns
-    is-part-name-requires
-    returns-2
-    is-part-requires
-    returns-3
-    type-row-requires
-    count-requires
-    field-requires
-    put-all-requires
-    same-length
-    returns-4
-    returns-5)
+    (λ c κs. search needs) returns (λ c κs. search needs) returns-2 is-part-requires returns-3 type-row-requires (λ c κs. search needs)
+    (λ c κs. search needs) (λ c κs. search needs) (λ c. search needs) returns-4 returns-5)
