@@ -2,13 +2,13 @@
 -- Assumes nothing.
 use Prim.Native.Nat.{ℕ, _+_, _≤_, _<_}
 use mathlib.Core.Path.{_≡_, refl, ap, sym, _∙_}
-use mathlib.Core.Bool.{Bool, true, false, not, _&&_}
+use mathlib.Core.Bool.{Bool, true, false, _&&_}
 use mathlib.Core.List.{List}
 use native.Mathlib.Omega.{arith}
 use native.Mathlib.Nat.{zero-add}
 use lib.Dec.{leb, eqb}
 use lib.ListN.{length, getD}
-use borrow.Author.Tests.{leb-true, le-leb, lt-leb, eq-eqb, eqb-true, not-false}
+use borrow.Author.Tests.{leb-true, le-leb, lt-leb, eq-eqb, eqb-true}
 use Rattle.store.specs.Buffer.{part, num4}
 use Rattle.store.specs.Layout.{heapStart, slotCount, maxCapacity, mark, formatOf, packageFormat, capOf, countOf, usedOf, endOf}
 use Rattle.store.specs.Packages.{Sound, Shape, isMarked, isPackage}
@@ -72,10 +72,6 @@ package-passed b e =
 
 pub package-shape : (b : List ℕ) → isPackage b ≡ true → Shape b
 package-shape b e = package-passed b e .shape
-
--- the same where the code has turned a buffer away that did not pass
-pub tested-shape : (b : List ℕ) (t : Bool) → t ≡ isPackage b → not t ≡ false → Shape b
-tested-shape b t e n = package-shape b (sym e ∙ not-false t n)
 
 -- the mark's two numbers are read back
 mark-number : (b : List ℕ) → part 0 7 b ≡ mark → (k : ℕ) → k + 4 ≤ 7 → num4 b k ≡ num4 mark k
