@@ -2,6 +2,7 @@ pub mod RowSearch
 pub mod RowKeys
 pub mod RowOrders
 pub mod RowCharges
+pub mod Opening
 pub mod Rans
 pub mod ItemRows
 pub mod SetRows

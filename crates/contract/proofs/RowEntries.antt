@@ -125,6 +125,7 @@ module _ (b : List ℕ) (k : Key) (r m : ℕ) (er : Sought b k r) (em : m ≡ co
         sound = x .sound;
         rows = x .rows ∙ ap₂ (λ (i j : ℕ). take i (rowsOf b) ++ drop j (rowsOf b)) e s ∙ sym (remove-at rowKey k (rowsOf b) j);
         cap = x .cap;
+        format = x .format;
       }
 
   pub drop-done : (q : List ℕ) → r < m → (Sound b → Removed b q r) → Dropped b k done q
@@ -223,6 +224,7 @@ module _ (b : List ℕ) (limit t : ℕ) (f0 f1 f2 f3 : Bytes) (k : ℕ) (w : Wei
           sound = x .sound;
           rows = x .rows ∙ ap (λ (i : ℕ). take i (rowsOf b) ++ (X ∷ drop i (rowsOf b))) e ∙ sym (insert-at rowKey X (rowsOf b));
           cap = x .cap;
+          format = x .format;
         }
 
     pub entered-made : (q : List ℕ) → (Sound b → Inserted b q r (makeRow t f0 f1 f2 f3)) → Entered b limit (makeRow t f0 f1 f2 f3) done q

@@ -128,7 +128,12 @@ module _ {E : Type 0} (key : E → Key) (row : E → Row) (n : ℕ) (S : State) 
 
   -- the buffer then holds the set ys
   lies-in : (q : List ℕ) (rs : List Row) (ys : List E) → Became b q rs → rs ≡ A .front ++ (map row ys ++ A .back) → Lies q (put ys)
-  lies-in q rs ys w e = record { sound = w .sound; rows = w .rows ∙ e ∙ sym (A .rows ys); capacity = w .cap ∙ h .lies .capacity ∙ sym (A .capacity ys) }
+  lies-in q rs ys w e = record {
+    sound = w .sound;
+    format = w .format ∙ h .lies .format;
+    rows = w .rows ∙ e ∙ sym (A .rows ys);
+    capacity = w .cap ∙ h .lies .capacity ∙ sym (A .capacity ys);
+  }
 
   refused-step : (c : Change) (a : Answer) (k : ℕ) → a ≡ refused k → changeRefusal S c ≡ k → (k ≡ 0 → ⊥) → (q : List ℕ) → q ≡ b → (a ≡ change S c .0) × Lies q (change S c .1)
   unfolding change

@@ -13,7 +13,7 @@ use Rattle.model.specs.Calls.{Call, Find, View, Totals, Start, Looks, Changes, 
 use Rattle.store.specs.Packages.{isPackage}
 use Rattle.store.proofs.PackageTest.{package-short, package-zeros}
 use Rattle.contract.specs.Ran.{Ran, noPackage, starts}
-use Rattle.contract.proofs.Rans.{is-package}
+use Rattle.contract.proofs.Opening.{is-package}
 use Rattle.package.specs.Demand.{EveryCall, EveryTest}
 
 -- a start is refused by 2 alone

@@ -18,12 +18,12 @@ use Rattle.model.specs.Package.{State, Relationship, relationshipLimit, relatio
 use Rattle.model.specs.Calls.{Changes, PutRelationship, DropRelationship, noRoom, putRelationshipRefusal, dropRelationshipRefusal, withRelationships}
 use Rattle.model.proofs.Refusals.{all-none, unmet}
 use Rattle.store.specs.Rows.{Row, makeRow, rowSize}
-use Rattle.store.specs.Packages.{isPackage}
 use Rattle.contract.specs.Rows.{second, keyIn, relationshipTag, relationshipRow}
 use Rattle.contract.specs.Answers.{ofDid}
 use Rattle.contract.specs.declared.answers.Did.the-variants.{Refused}
 use Rattle.contract.specs.Entries.{Entered, Dropped}
 use Rattle.contract.specs.Ran.{Ran}
+use Rattle.contract.specs.Opening.{Open}
 use Rattle.contract.proofs.Rans.{ran-changed, field-refused}
 use Rattle.contract.proofs.FieldSizes.{source-size}
 use Rattle.contract.proofs.FirstRefusals.{first-met, first-unmet, first-one}
@@ -148,7 +148,7 @@ module _ (s i v : Bytes) (m : ℕ) (t : Bytes) where
   row-is = refl
 
 -- EACH WAY OUT
-module _ (p : List ℕ) (o : isPackage p ≡ true) (s i : Bytes) where
+module _ (p : List ℕ) (o : Open p) (s i : Bytes) where
   module _ (k : ℕ) (ek : k ≡ first (sourceField s ∷ idField i ∷ [])) where
     pub drop-refused : (k ≡ 0 → ⊥) → Ran (Changes (DropRelationship s i)) p (ofDid (Refused k)) p
     drop-refused z = field-refused p o (DropRelationship s i) k z (λ S. drop-fields S s i k (sym ek) z)

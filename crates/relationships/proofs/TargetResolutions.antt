@@ -33,11 +33,12 @@ use Rattle.model.proofs.Lookups.{none-some, some-eq, lookup-each}
 use Rattle.model.proofs.Targets.{fielded, target-size}
 use Rattle.store.specs.Layout.{countOf}
 use Rattle.store.specs.Rows.{Row, rowAt, tagAt, rowsOf, fieldOf}
-use Rattle.store.specs.Packages.{Shape, Sound, isPackage}
+use Rattle.store.specs.Packages.{Shape, Sound}
 use Rattle.contract.specs.Rows.{keyIn, rowKey, relationshipRow}
 use Rattle.contract.specs.Holds.{Holds}
 use Rattle.contract.specs.Entries.{Sought}
 use Rattle.contract.specs.Ran.{Ran}
+use Rattle.contract.specs.Opening.{Open}
 use Rattle.contract.proofs.Rans.{wrote}
 use Rattle.contract.proofs.FieldSizes.{source-size}
 use Rattle.contract.proofs.FirstRefusals.{first-one}
@@ -209,7 +210,7 @@ module _ (b : List ℕ) (i : ℕ) (li : i < countOf b) (base out t : Bytes) (et 
       }
 
 -- THE CALL; k is the refusal of what it asks for
-module _ (p : List ℕ) (o : isPackage p ≡ true) (s i base out : Bytes) (k : ℕ) (ek : k ≡ first (sourceField s ∷ idField i ∷ packageField base ∷ [])) where
+module _ (p : List ℕ) (o : Open p) (s i base out : Bytes) (k : ℕ) (ek : k ≡ first (sourceField s ∷ idField i ∷ packageField base ∷ [])) where
   pub resolve-refused : (k ≡ 0 → ⊥) → Ran (Prints (ResolveRelationship s i base) out) p (ofResolution (resolution.Refused k) out) p
   unfolding printed filled
   resolve-refused z =

@@ -2,17 +2,17 @@
 ghost use mathlib.Core.Path.{_≡_};
 ghost use Prim.Native.Nat.{_+_, _^_, _≤_, _<_};
 ghost use lib.ListN.{length, getD};
-ghost use Rattle.store.specs.Buffer.{part, splice, num4, le4};
+ghost use Rattle.store.specs.Buffer.{splice, num4, le4};
 
 // A byte as a number.
-pub fn wide(x: u8) -> usize
+pub(crate) fn wide(x: u8) -> usize
     ensures { λ r. ⌜ (r ≡ x) × (r < 256) ⌝ }
 {
     x as usize
 }
 
 // The byte at `at`: 0 past the end.
-pub fn byte_at(s: &[u8], at: usize) -> u8
+pub(crate) fn byte_at(s: &[u8], at: usize) -> u8
     ensures { λ r. ⌜ r ≡ getD (now (s .entry)) at 0 ⌝ }
 {
     if at < s.len() { s[at] } else { 0 }
@@ -39,18 +39,4 @@ pub fn put4(pkg: &mut [u8], at: usize, v: usize)
     pkg[at + 1] = (v / 256 % 256) as u8;
     pkg[at + 2] = (v / 256 / 256 % 256) as u8;
     pkg[at + 3] = (v / 256 / 256 / 256 % 256) as u8;
-}
-
-// The n bytes from `at` on, or none where the slice has not so many.
-pub fn cut(pkg: &[u8], at: usize, n: usize) -> &[u8]
-    ensures { λ r. ⌜ (length (now r) ≤ n) × (length (now r) ≤ length (now (pkg .entry))) × (at + n ≤ length (now (pkg .entry)) → now r ≡ part at n (now (pkg .entry))) ⌝ }
-{
-    if pkg.len() < at {
-        return &pkg[0..0];
-    }
-    if pkg.len() - at < n {
-        return &pkg[0..0];
-    }
-    let e = at + n;
-    &pkg[at..e]
 }

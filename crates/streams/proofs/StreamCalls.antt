@@ -24,11 +24,11 @@ use Rattle.model.proofs.Lists.{slice-map, slice-append}
 use Rattle.model.proofs.Joins.{joined-append, joined-map}
 use Rattle.model.proofs.Groups.{tilde, source-between}
 use Rattle.store.specs.Rows.{Row, rowsOf}
-use Rattle.store.specs.Packages.{isPackage}
 use Rattle.contract.specs.Rows.{itemRow, defaultRow, overrideRow, relationshipRow, otherRows, rowsFor, second, keyIn, rowKey}
 use Rattle.contract.specs.Holds.{Holds}
 use Rattle.contract.specs.Searches.{Bounded}
 use Rattle.contract.specs.Ran.{Ran}
+use Rattle.contract.specs.Opening.{Open}
 use Rattle.contract.proofs.RowOrders.{set-bound, holds-ordered}
 use Rattle.contract.proofs.ItemRows.{item-count}
 use Rattle.contract.proofs.SetRows.{none-before}
@@ -110,7 +110,7 @@ module _ (b : List ℕ) (S : State) (h : Holds b S) where
         (ap (joined lineOf) source-rows ∙ joined-map relationshipRow lineOf relationshipLine relationship-row-line (ofSource s (S .relationships)))
 
 -- EACH WAY OUT
-module _ (b : List ℕ) (o : isPackage b ≡ true) where
+module _ (b : List ℕ) (o : Open b) where
   pub types-written : (f t : ℕ) → Bounded b (keyIn 1 [] 0 []) f → Bounded b (keyIn 3 [] 0 []) t → (out : Bytes) (a : Answer)
       → Answered b f t (ascii "<Types xmlns=\"http://schemas.openxmlformats.org/package/2006/content-types\">\n") (ascii "</Types>\n") out a → Ran (Prints WriteTypes out) b a b
   unfolding printed

@@ -11,8 +11,8 @@ use Rattle.iri.specs.Scratch.{Sent}
 use Rattle.model.specs.Sets.{Bytes, joined}
 use Rattle.model.specs.Texts.{declaration}
 use Rattle.model.specs.Calls.{Numbered}
-use Rattle.store.specs.Layout.{slotCount, countOf, usedOf, slotOf, sizeOf}
-use Rattle.store.specs.Rows.{Row, rowAt, rowsOf}
+use Rattle.store.specs.Layout.{slotCount, countOf, usedOf}
+use Rattle.store.specs.Rows.{Row, rowAt, sizeAt, rowsOf}
 use Rattle.store.specs.Packages.{Sound}
 use Rattle.streams.specs.EntryLines.{lineOf}
 
@@ -57,7 +57,7 @@ pub record Streamed (b : List ℕ) (f t : ℕ) (head foot : Bytes) (out : List �
 -- the bytes of the first n rows together, as the slots tell
 unfoldable pub sizesOf : List ℕ → ℕ → ℕ
 sizesOf b zero = 0
-sizesOf b (suc n) = sizesOf b n + sizeOf (slotOf b n)
+sizesOf b (suc n) = sizesOf b n + sizeAt b n
 
 -- and those of the rows from f up to t
 abbrev pub runSize : List ℕ → ℕ → ℕ → ℕ

@@ -16,13 +16,13 @@ use Rattle.model.specs.Package.{State, Default, Override, defaultLimit, overrid
 use Rattle.model.specs.Calls.{Change, Changes, PutDefault, DropDefault, PutOverride, DropOverride, refused, noRoom, changeRefusal, changeMade, putDefaultRefusal, dropDefaultRefusal, putOverrideRefusal, dropOverrideRefusal, withDefaults, withOverrides}
 use Rattle.store.specs.Layout.{countOf, slotCount}
 use Rattle.store.specs.Rows.{Row, makeRow, rowSize}
-use Rattle.store.specs.Packages.{isPackage}
 use Rattle.contract.specs.Rows.{second, keyIn, defaultTag, overrideTag, defaultRow, overrideRow}
 use Rattle.contract.specs.Answers.{ofDid}
 use Rattle.contract.specs.declared.answers.Did.the-variants.{Refused}
 use Rattle.contract.specs.Holds.{Holds}
 use Rattle.contract.specs.Entries.{Entered, Dropped}
 use Rattle.contract.specs.Ran.{Ran}
+use Rattle.contract.specs.Opening.{Open}
 use Rattle.contract.proofs.Rans.{ran-changed, field-refused}
 use Rattle.contract.proofs.FieldSizes.{extension-some, name-some}
 use Rattle.contract.proofs.FirstRefusals.{first-met, first-unmet, first-one}
@@ -147,7 +147,7 @@ overrides = record {
 }
 
 -- EACH WAY OUT; y is the test of the text, z that of the type
-module _ (K : Kind) (p : List ℕ) (o : isPackage p ≡ true) (s : Bytes) (y : Bool) (ey : y ≡ K .fit s) where
+module _ (K : Kind) (p : List ℕ) (o : Open p) (s : Bytes) (y : Bool) (ey : y ≡ K .fit s) where
   pub drop-refused : not y ≡ true → Ran (Changes (K .dropping s)) p (ofDid (Refused (K .refusal))) p
   drop-refused h =
       field-refused p o (K .dropping s) (K .refusal) (K .met)

@@ -23,11 +23,12 @@ use Rattle.model.proofs.Lookups.{none-some, some-eq}
 use Rattle.model.proofs.Numbers.{numbered}
 use Rattle.store.specs.Layout.{countOf}
 use Rattle.store.specs.Rows.{Row, rowAt, rowsOf, fieldOf}
-use Rattle.store.specs.Packages.{Sound, isPackage}
+use Rattle.store.specs.Packages.{Sound}
 use Rattle.contract.specs.Rows.{second, keyIn, rowKey, defaultRow, overrideRow}
 use Rattle.contract.specs.Holds.{Holds}
 use Rattle.contract.specs.Entries.{Sought}
 use Rattle.contract.specs.Ran.{Ran}
+use Rattle.contract.specs.Opening.{Open}
 use Rattle.contract.proofs.RowOrders.{holds-ordered}
 use Rattle.contract.proofs.RowEntries.{row-here, row-none}
 use Rattle.contract.proofs.SetRows.{rowFor}
@@ -103,7 +104,7 @@ module _ (b : List ℕ) (s : Bytes) (r m : ℕ) (er : Sought b (keyIn 2 s 0 []) 
         }
 
 -- EACH WAY OUT OF THE CALL; q is the test of the name, y whether it is a part
-module _ (b : List ℕ) (o : isPackage b ≡ true) (name out : Bytes) (q : Bool) (eq : q ≡ partName name) where
+module _ (b : List ℕ) (o : Open b) (name out : Bytes) (q : Bool) (eq : q ≡ partName name) where
   -- "4 not a part name"
   pub type-misnamed : not q ≡ true → Ran (Prints (MediaType name) out) b (answer 4 (0 ∷ []) out) b
   unfolding printed first

@@ -1,8 +1,8 @@
 use Rattle.items.proofs.Naming.{prefix-slice}
 use Rattle.items.proofs.Locating.{located, located-unlike, located-other, located-none}
 use borrow.Author.Needs.{needs}
-use Rattle.items.proofs.wanted.locate.Statement.{statement}
-use Rattle.items.proofs.wanted.locate.Tie as tie
+use Rattle.items.proofs.wanted.item_row.Statement.{statement}
+use Rattle.items.proofs.wanted.item_row.Tie as tie
 
 slice-aggregate-bound : tie.Need-slice-aggregate-bound
 slice-aggregate-bound c = prefix-slice _ _ (c .before .before .before .before .pre .1 .0)
@@ -56,8 +56,8 @@ returns-4 c =
     let at-pre = at-count .before .before .before in
     located-none _ _ _ _ (at-pre .pre .1 .0) (at-pre .pre .1 .1) _ _ (at-count .count .ensures .0) (at-bound .bound .ensures) (c .if1 .left)
 
-pub locate-spec : {M : Type 1} → statement M
-locate-spec =
+pub item-row-spec : {M : Type 1} → statement M
+item-row-spec =
     tie.close
     (tie.spec
     (λ c κs. search needs) slice-aggregate-bound (λ c. search needs) (λ c κs. search needs) (λ c κs. search needs) (λ c κs. search needs)
