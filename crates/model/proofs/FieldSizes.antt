@@ -17,8 +17,8 @@ use Rattle.names.specs.Types.{mediaType, extension, token}
 use Rattle.iri.proofs.Judging.{name-few}
 use Rattle.model.specs.Sets.{Bytes, lookup}
 use Rattle.model.specs.Fields.{when, first, prefixOf, defaultFields, overrideFields}
-use Rattle.model.specs.Package.{Item, Default, Override, State, nameKey, keyOfDefault, keyOfOverride, extensionOf, defaultFor, typeOf, typeOfDefault, mediaTypeOf}
-use Rattle.model.specs.Good.{Good, fieldsOfDefault, fieldsOfOverride}
+use Rattle.model.specs.Package.{Item, Default, Override, State, nameKey, keyOfDefault, keyOfOverride, extensionOf, defaultFor, typeOf, typeOfDefault, mediaTypeOf, defaultKind, overrideKind}
+use Rattle.model.specs.Good.{Good}
 use Rattle.model.proofs.Lists.{each-at}
 use Rattle.model.proofs.Lookups.{none-some, some-eq, lookup-each}
 use Rattle.model.proofs.ItemNames.{prefixes-named}
@@ -48,11 +48,11 @@ second-field y true n l e = refl
 second-field true false n l e = absurd (omega arith)
 second-field false false n l e = absurd (omega (arith, rw (ne-eqb n 0 (λ z. omega arith)) at e))
 
-default-size : (d : Default) → fieldsOfDefault d ≡ 0 → Sized (d .type)
+default-size : (d : Default) → defaultKind .fields d ≡ 0 → Sized (d .type)
 unfolding defaultFields
 default-size d e = media-size (d .type) (second-field (extension (d .extension)) (mediaType (d .type)) 7 (omega arith) e)
 
-override-size : (o : Override) → fieldsOfOverride o ≡ 0 → Sized (o .type)
+override-size : (o : Override) → overrideKind .fields o ≡ 0 → Sized (o .type)
 unfolding overrideFields
 override-size o e = media-size (o .type) (second-field (partName (o .name)) (mediaType (o .type)) 4 (omega arith) e)
 
@@ -65,12 +65,12 @@ type-size S g name t = by-override (lookup keyOfOverride (nameKey name) (S .over
     by-default none e f = absurd (none-some t f)
     by-default (some d) e f = subst Sized (some-eq (d .type) t f) (default-size d (go (eqb (extensionAt name) 0) e))
       where
-        go : (z : Bool) → cond z none (lookup keyOfDefault (nameKey (extensionOf name)) (S .defaults)) ≡ some d → fieldsOfDefault d ≡ 0
+        go : (z : Bool) → cond z none (lookup keyOfDefault (nameKey (extensionOf name)) (S .defaults)) ≡ some d → defaultKind .fields d ≡ 0
         go true e = absurd (none-some d e)
-        go false e = lookup-each keyOfDefault (λ (x : Default). fieldsOfDefault x ≡ 0) (nameKey (extensionOf name)) (S .defaults) d (g .defaults .fielded) e
+        go false e = lookup-each keyOfDefault (λ (x : Default). defaultKind .fields x ≡ 0) (nameKey (extensionOf name)) (S .defaults) d (g .defaults .fielded) e
 
     by-override : (o : Option Override) → lookup keyOfOverride (nameKey name) (S .overrides) ≡ o → typeOf o (defaultFor name (S .defaults)) ≡ some t → Sized t
     by-override none e f = by-default (defaultFor name (S .defaults)) refl f
     by-override (some o) e f =
         subst Sized (some-eq (o .type) t f)
-        (override-size o (lookup-each keyOfOverride (λ (x : Override). fieldsOfOverride x ≡ 0) (nameKey name) (S .overrides) o (g .overrides .fielded) e))
+        (override-size o (lookup-each keyOfOverride (λ (x : Override). overrideKind .fields x ≡ 0) (nameKey name) (S .overrides) o (g .overrides .fielded) e))

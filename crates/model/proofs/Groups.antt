@@ -23,9 +23,8 @@ use Rattle.names.specs.Types.{identifier}
 use Rattle.model.specs.Sets.{Bytes, thenBy, keyOrder, isLess, isEqual, before, Each, Pairs, Sorted}
 use Rattle.model.specs.Places.{bound, lead}
 use Rattle.model.specs.Fields.{prefixOf, suffixOf, relationshipFields}
-use Rattle.model.specs.Package.{Item, Relationship, rank, keyOfItem, keyOfRelationship, group}
+use Rattle.model.specs.Package.{Item, Relationship, rank, keyOfItem, keyOfRelationship, group, relationshipKind}
 use Rattle.model.specs.Texts.{ofSource}
-use Rattle.model.specs.Good.{fieldsOfRelationship}
 use Rattle.model.proofs.Lists.{each-map, pairs-those}
 use Rattle.model.proofs.Refusals.{all-none, unmet}
 use Rattle.model.proofs.Walks.{Parted, those-between}
@@ -105,19 +104,19 @@ id-before (x ∷ i) e =
     let f = letter x || eqb x underscore in
     rw (lt-ltb x tilde (lead-small x (and-right w f (and-left (w && f) (every (member Id) (x ∷ i)) e))))
 
-relationship-id : (r : Relationship) → fieldsOfRelationship r ≡ 0 → identifier (r .id) ≡ true
+relationship-id : (r : Relationship) → relationshipKind .fields r ≡ 0 → identifier (r .id) ≡ true
 unfolding relationshipFields
 relationship-id r z = not-false (identifier (r .id)) (unmet (not (identifier (r .id))) 8 (omega arith) (all-none _ z .1 .0))
 
 -- so the relationships of a source are those between two bounds
 pub source-between :
-    (s : Bytes) (rs : List Relationship) → Sorted keyOfRelationship rs → Each (λ (r : Relationship). fieldsOfRelationship r ≡ 0) rs →
+    (s : Bytes) (rs : List Relationship) → Sorted keyOfRelationship rs → Each (λ (r : Relationship). relationshipKind .fields r ≡ 0) rs →
     ofSource s rs
     ≡ slice (bound keyOfRelationship (fold s, []) rs) (bound keyOfRelationship (fold s, tilde ∷ []) rs) rs
 unfolding keyOrder thenBy equivalent
 source-between s rs o z =
     those-between p q eqv rs (not-before-monotone keyOfRelationship (fold s, []) rs o) (not-before-monotone keyOfRelationship (fold s, tilde ∷ []) rs o)
-    (each-map (λ (r : Relationship). fieldsOfRelationship r ≡ 0) (Parted p q eqv) rs (λ r h. parted r (id-before (r .id) (relationship-id r h))) z)
+    (each-map (λ (r : Relationship). relationshipKind .fields r ≡ 0) (Parted p q eqv) rs (λ r h. parted r (id-before (r .id) (relationship-id r h))) z)
   where
     p : Relationship → Bool
     p r = not (before (keyOfRelationship r) (fold s, []))

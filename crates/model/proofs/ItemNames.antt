@@ -18,8 +18,8 @@ use Rattle.names.specs.declared.items.ItemName.{ItemName}
 use Rattle.names.specs.declared.items.ItemName.the-variants.{Named, Refused}
 use Rattle.model.specs.Sets.{Bytes, Each}
 use Rattle.model.specs.Fields.{prefixIn, suffixIn, prefixOf, suffixOf, itemField}
-use Rattle.model.specs.Package.{Item, State}
-use Rattle.model.specs.Good.{Good, fieldsOfItem}
+use Rattle.model.specs.Package.{Item, State, itemKind}
+use Rattle.model.specs.Good.{Good}
 use Rattle.model.proofs.Lists.{each-map}
 use Rattle.model.proofs.Refusals.{all-none, unmet}
 
@@ -104,4 +104,4 @@ accepted-prefix s h =
 
 -- the prefixes of held items are part names
 pub prefixes-named : (S : State) → Good S → Each (λ (i : Item). partName (prefixOf (i .name)) ≡ true) (S .items)
-prefixes-named S g = each-map (λ (i : Item). fieldsOfItem i ≡ 0) (λ (i : Item). partName (prefixOf (i .name)) ≡ true) (S .items) (λ i h. accepted-prefix (i .name) h .0) (g .items .fielded)
+prefixes-named S g = each-map (λ (i : Item). itemKind .fields i ≡ 0) (λ (i : Item). partName (prefixOf (i .name)) ≡ true) (S .items) (λ i h. accepted-prefix (i .name) h .0) (g .items .fielded)

@@ -22,6 +22,18 @@ module _ {E : Type 0} where
   each-both P Q R [] f a b = tt
   each-both P Q R (x ∷ xs) f a b = (f x (a .0) (b .0), each-both P Q R xs f (a .1) (b .1))
 
+  pub each-append : (P : E → Type 0) (xs ys : List E) → Each P xs → Each P ys → Each P (xs ++ ys)
+  each-append P [] ys a b = b
+  each-append P (x ∷ xs) ys a b = (a .0, each-append P xs ys (a .1) b)
+
+  pub each-left : (P : E → Type 0) (xs ys : List E) → Each P (xs ++ ys) → Each P xs
+  each-left P [] ys a = tt
+  each-left P (x ∷ xs) ys a = (a .0, each-left P xs ys (a .1))
+
+  pub each-right : (P : E → Type 0) (xs ys : List E) → Each P (xs ++ ys) → Each P ys
+  each-right P [] ys a = a
+  each-right P (x ∷ xs) ys a = each-right P xs ys (a .1)
+
   pub each-at : (P : E → Type 0) (xs : List E) (n : ℕ) (d : E) → n < length xs → Each P xs → P (getD xs n d)
   each-at P [] n d l h = absurd (omega arith)
   each-at P (x ∷ xs) zero d l h = h .0

@@ -13,8 +13,8 @@ use Rattle.names.specs.Names.{partName, reserved}
 use Rattle.model.specs.Sets.{Bytes, before, those, Each, Pairs, Sorted}
 use Rattle.model.specs.Places.{lead}
 use Rattle.model.specs.Fields.{prefixOf}
-use Rattle.model.specs.Package.{Item, State, keyOfItem, group, isPart, spelling, leaders, groups, parts}
-use Rattle.model.specs.Good.{Good, fieldsOfItem}
+use Rattle.model.specs.Package.{Item, State, keyOfItem, group, isPart, spelling, leaders, groups, parts, itemKind}
+use Rattle.model.specs.Good.{Good}
 use Rattle.model.proofs.Bools.{not-passing}
 use Rattle.model.proofs.Lists.{each-map, each-both, each-drop, pairs-drop, map-each, those-append, those-all, those-none, those-those, each-those, pairs-those, length-those}
 use Rattle.model.proofs.Walks.{lead-take}
@@ -143,7 +143,7 @@ unfolding parts
 parts-named S g =
     each-those (λ (q : List Item). Unreserved (spelling q)) (λ (q : List Item). Unreserved (spelling q)) isPart (groups (S .items)) (λ q e h. h)
     (groups-each Unreserved (length (S .items)) (S .items) (omega arith) (g .items .sorted)
-    (each-map (λ (i : Item). fieldsOfItem i ≡ 0) (λ (i : Item). Unreserved (prefixOf (i .name))) (S .items) (λ i h. accepted-prefix (i .name) h) (g .items .fielded)))
+    (each-map (λ (i : Item). itemKind .fields i ≡ 0) (λ (i : Item). Unreserved (prefixOf (i .name))) (S .items) (λ i h. accepted-prefix (i .name) h) (g .items .fielded)))
 
 -- there are no more parts than items
 leaders-few : (xs : List Item) → length (leaders xs) ≤ length xs

@@ -3,7 +3,7 @@
 use Prim.Native.Nat.{ℕ, _+_, _≤_, _<_}
 use mathlib.Core.Path.{_≡_, refl}
 use mathlib.Core.Bool.{Bool, true, false, cond}
-use mathlib.Core.List.{List, [], _∷_}
+use mathlib.Core.List.{List, [], _∷_, _++_}
 use native.Mathlib.Omega.{arith}
 use lib.Dec.{eqb, leb, ltb}
 use borrow.Author.Tests.{eqb-true, eqb-false, leb-false, ltb-false, eq-eqb}
@@ -27,6 +27,17 @@ pub none-all : (ns : List ℕ) → Each (λ (n : ℕ). n ≡ 0) ns → first ns 
 unfolding first
 none-all [] h = refl
 none-all (n ∷ ns) h = rw (eq-eqb n 0 (h .0)) (none-all ns (h .1))
+
+-- refusals in two lists: the first of the first list, then those of the second
+pub first-append : (ms ns : List ℕ) → first (ms ++ ns) ≡ first (first ms ∷ ns)
+unfolding first
+first-append [] ns = refl
+first-append (m ∷ ms) ns = go (eqb m 0) refl (first-append ms ns)
+  where
+    go : (b : Bool) → eqb m 0 ≡ b → first (ms ++ ns) ≡ cond (eqb (first ms) 0) (first ns) (first ms) →
+        cond b (first (ms ++ ns)) m ≡ cond (eqb (cond b (first ms) m) 0) (first ns) (cond b (first ms) m)
+    go true e h = h
+    go false e h = rw e
 
 pub unmet : (b : Bool) (n : ℕ) → 0 < n → when b n ≡ 0 → b ≡ false
 unmet true n l e = absurd (omega arith)

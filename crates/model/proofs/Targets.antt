@@ -12,8 +12,7 @@ use Rattle.names.specs.Iris.{iri}
 use Rattle.iri.specs.Targets.{internal, resolvePath, internalRefusal, targetRefusal}
 use Rattle.iri.proofs.Judging.{iri-few, target-few}
 use Rattle.model.specs.Fields.{sourceField, idField, relationshipTypeField, modeField, targetField, relationshipFields}
-use Rattle.model.specs.Package.{Relationship}
-use Rattle.model.specs.Good.{fieldsOfRelationship}
+use Rattle.model.specs.Package.{Relationship, relationshipKind}
 use Rattle.model.proofs.Refusals.{all-none, unmet}
 
 -- a relationship's fields, one by one
@@ -24,7 +23,7 @@ pub record Fielded (r : Relationship) : Type 0 where
   pub mode : modeField (r .mode) ≡ 0
   pub target : targetField (r .mode) (r .source) (r .target) ≡ 0
 
-pub fielded : (r : Relationship) → fieldsOfRelationship r ≡ 0 → Fielded r
+pub fielded : (r : Relationship) → relationshipKind .fields r ≡ 0 → Fielded r
 unfolding relationshipFields
 fielded r h =
     let z = all-none _ h in
