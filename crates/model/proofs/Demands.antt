@@ -10,10 +10,11 @@ use lib.Dec.{eqb}
 use lib.ListN.{length}
 use borrow.Author.Tests.{le-ltb}
 use Rattle.iri.specs.Answers.{Answer, answer}
-use Rattle.model.specs.Sets.{Bytes, sameKey, held, any, those, sumOf, lookup}
+use Rattle.model.specs.Sets.{Bytes, sameKey, held, any, filter, sumOf, lookup}
 use Rattle.model.specs.Fields.{when, first, suffixOf, last, itemField}
 use Rattle.model.specs.Package.{Item, State, itemKey, keyOfItem, charge, group, itemAt, sameLast}
-use Rattle.model.specs.Calls.{Find, View, Look, PutItem, done, refused, pick, putItemRefusal, askedRefusal, changeRefusal, changeMade, change, look}
+use Rattle.model.specs.Calls.{Find, View, Look, PutItem, done, refused, pick, putItemRefusal, askedRefusal, changeRefusal, changeMade}
+use Rattle.model.specs.Calls.{change, look}
 use Rattle.model.specs.Demand.{EveryList, TotalsAreSums, PutsAreFound, PutsKeepOthers, FirstPutsFit, DropsUndoPuts}
 use Rattle.model.proofs.Lookups.{lookup-insert-other}
 use Rattle.model.proofs.Refusals.{all-none, none-all, changed-done, changed-accepted}
@@ -58,7 +59,8 @@ puts-are-found room S name bytes h =
 module _ (S : State) (name bytes other : Bytes) (n : sameKey (itemKey other) (itemKey name) ≡ false) where
   other-at : itemAt other (changeMade S (PutItem name bytes) .items) ≡ itemAt other (S .items)
   unfolding itemAt
-  other-at = ap (sameLast (last (suffixOf other))) (lookup-insert-other keyOfItem (itemKey other) (record { name = name; bytes = bytes }) (S .items) n)
+  other-at = ap (sameLast (last (suffixOf other)))
+      (lookup-insert-other keyOfItem (itemKey other) (record { name = name; bytes = bytes }) (S .items) n)
 
   find-other : look (changeMade S (PutItem name bytes)) (Find other) ≡ look S (Find other)
   unfolding look askedRefusal
@@ -71,7 +73,8 @@ module _ (S : State) (name bytes other : Bytes) (n : sameKey (itemKey other) (it
 pub puts-keep-others : PutsKeepOthers
 unfolding change
 puts-keep-others room S name bytes other n =
-    (either (Find other) (eqb (putItemRefusal S name bytes) 0) (find-other S name bytes other n), either (View other) (eqb (putItemRefusal S name bytes) 0) (view-other S name bytes other n))
+    (either (Find other) (eqb (putItemRefusal S name bytes) 0) (find-other S name bytes other n),
+        either (View other) (eqb (putItemRefusal S name bytes) 0) (view-other S name bytes other n))
   where
     either :
         (q : Look) (b : Bool) → look (changeMade S (PutItem name bytes)) q ≡ look S q →
@@ -80,7 +83,7 @@ puts-keep-others room S name bytes other n =
     either q false h = refl
 
 pub first-puts-fit : FirstPutsFit
-unfolding change putItemRefusal lookup any group those charge sumOf first
+unfolding change putItemRefusal lookup any group filter charge sumOf first
 first-puts-fit room C name bytes h l = rw (h, le-ltb C (0 + (length name + length bytes)) (omega arith))
 
 pub drops-undo-puts : DropsUndoPuts

@@ -3,7 +3,7 @@
 use Prim.Native.Nat.{ℕ, _<_}
 use mathlib.Core.Path.{_≡_, refl, ap, sym, _∙_}
 use mathlib.Core.Bool.{Bool, true, false, not, cond, true≢false}
-use mathlib.Core.List.{List, [], _∷_}
+use mathlib.Core.List.{List, [], _∷_, flatMap, append-nil}
 use mathlib.Core.Option.{none, some}
 use native.Mathlib.Omega.{arith}
 use lib.Dec.{eqb}
@@ -19,15 +19,16 @@ use Rattle.names.specs.declared.items.Suffix.the-variants.{Whole, Piece}
 use Rattle.names.specs.declared.items.ItemName.{ItemName}
 use Rattle.names.specs.declared.items.ItemName.the-variants.{Named, Refused}
 use Rattle.iri.specs.Answers.{Answer}
-use Rattle.model.specs.Sets.{Bytes, Key, before, sameKey, any, those, joined, lookup, insert, Each}
+use Rattle.model.specs.Sets.{Bytes, Key, before, sameKey, any, filter, lookup, insert, Each}
 use Rattle.model.specs.Fields.{first, prefixOf, suffixOf, itemField, overrideFields}
 use Rattle.model.specs.Package.{Item, Default, Override, State, itemKind, defaultKind, overrideKind}
-use Rattle.model.specs.Package.{itemKey, nameKey, keyOfItem, keyOfDefault, keyOfOverride, rank, group, isPart, content, disagrees, extensionOf, mediaTypeOf}
+use Rattle.model.specs.Package.{itemKey, nameKey, keyOfItem, keyOfDefault, keyOfOverride, rank, group, isPart, content, disagrees}
+use Rattle.model.specs.Package.{extensionOf, mediaTypeOf}
 use Rattle.model.specs.Calls.{PutItem, Print, ReadPart, MediaType, Text, filled, printed, changed, changeMade, change}
 use Rattle.model.specs.Calls.{putRefusal, putIn, misfits, putItemRefusal, putDefaultRefusal, putOverrideRefusal}
 use Rattle.model.specs.Demand.{OverridesAnswer, DefaultsAnswer, WholeItemsAreParts}
 use Rattle.model.proofs.Bools.{not-passing}
-use Rattle.model.proofs.Lists.{append-nil, each-both, any-those-none, those-none}
+use Rattle.model.proofs.Lists.{each-both, any-filter-none, filter-none}
 use Rattle.model.proofs.Refusals.{all-none, unmet, changed-done, changed-accepted}
 use Rattle.model.proofs.Puts.{put-fields, put-free, put-own, put-found}
 use Rattle.model.proofs.ItemNames.{prefix-named, suffix-named, prefix-part, refused-number, accepted-prefix}
@@ -35,7 +36,8 @@ use Rattle.model.proofs.Items.{one-item-key}
 use Rattle.model.proofs.Groups.{alike}
 
 -- MEDIA TYPES. What the call writes where the part and its type are there
-typed : (S : State) (name type : Bytes) (size : ℕ) → partName name ≡ true → isPart (group name (S .items)) ≡ true → mediaTypeOf name S ≡ some type → printed S size (MediaType name) ≡ Text type []
+typed : (S : State) (name type : Bytes) (size : ℕ) → partName name ≡ true → isPart (group name (S .items)) ≡ true →
+    mediaTypeOf name S ≡ some type → printed S size (MediaType name) ≡ Text type []
 unfolding printed first
 typed S name type size p g m = rw (p, g, m)
 
@@ -68,7 +70,8 @@ module _ (S : State) (new : Default) (name : Bytes) (h : putRefusal defaultKind 
   default-found : equivalent (extensionOf name) (new .extension) ≡ true →
       lookup keyOfDefault (nameKey (extensionOf name)) (putIn defaultKind S new .defaults) ≡ some new
   default-found q =
-      ap (λ (t : Bytes). lookup keyOfDefault (t, []) (putIn defaultKind S new .defaults)) (equivalent-fold (extensionOf name) (new .extension) q)
+      ap (λ (t : Bytes). lookup keyOfDefault (t, []) (putIn defaultKind S new .defaults))
+          (equivalent-fold (extensionOf name) (new .extension) q)
       ∙ put-found defaultKind S new [] h
 
   default-type :
@@ -86,13 +89,14 @@ defaults-answer room S extension type name output h p g o d q =
     (typed (putIn defaultKind S new) name type (length output) p g (default-type S new name e o d q))
 
 -- WHOLE ITEMS
-those-insert : {E : Type 0} (key : E → Key) (p : E → Bool) (e : E) (xs : List E) → p e ≡ true → Each (λ (x : E). p x ≡ false) xs → those p (insert key e xs) ≡ e ∷ []
-unfolding those insert
-those-insert key p e [] h a = rw h
-those-insert key p e (x ∷ xs) h a = go (before (key e) (key x)) (those-insert key p e xs h (a .1))
+filter-insert : {E : Type 0} (key : E → Key) (p : E → Bool) (e : E) (xs : List E) → p e ≡ true → Each (λ (x : E). p x ≡ false) xs →
+    filter p (insert key e xs) ≡ e ∷ []
+unfolding filter insert
+filter-insert key p e [] h a = rw h
+filter-insert key p e (x ∷ xs) h a = go (before (key e) (key x)) (filter-insert key p e xs h (a .1))
   where
-    go : (b : Bool) → those p (insert key e xs) ≡ e ∷ [] → those p (cond b (e ∷ x ∷ xs) (x ∷ insert key e xs)) ≡ e ∷ []
-    go true ih = rw (h, a .0, those-none p xs (a .1))
+    go : (b : Bool) → filter p (insert key e xs) ≡ e ∷ [] → filter p (cond b (e ∷ x ∷ xs) (x ∷ insert key e xs)) ≡ e ∷ []
+    go true ih = rw (h, a .0, filter-none p xs (a .1))
     go false ih = rw (a .0) ih
 
 module _ (S : State) (name bytes : Bytes) (w : suffixOf name ≡ Whole) (h : putItemRefusal S name bytes ≡ 0) where
@@ -107,9 +111,11 @@ module _ (S : State) (name bytes : Bytes) (w : suffixOf name ≡ Whole) (h : put
   unfolding putItemRefusal group
   alone =
       let p₁₂ : 0 < 12 = omega arith in
-      each-both Free Agree (λ (i : Item). alike (prefixOf name) i ≡ false) (S .items) (λ i f a. not-passing (alike (prefixOf name) i) (both i f a))
+      each-both Free Agree (λ (i : Item). alike (prefixOf name) i ≡ false) (S .items)
+          (λ i f a. not-passing (alike (prefixOf name) i) (both i f a))
       (put-free itemKind S new own h)
-      (any-those-none (λ (i : Item). disagrees (suffixOf name) (suffixOf (i .name))) (alike (prefixOf name)) (S .items) (unmet _ 12 p₁₂ (put-own itemKind S new own h .0)))
+      (any-filter-none (λ (i : Item). disagrees (suffixOf name) (suffixOf (i .name))) (alike (prefixOf name)) (S .items)
+          (unmet _ 12 p₁₂ (put-own itemKind S new own h .0)))
     where
       Free : Item → Type 0
       Free i = sameKey (itemKey name) (keyOfItem i) ≡ false
@@ -125,7 +131,8 @@ module _ (S : State) (name bytes : Bytes) (w : suffixOf name ≡ Whole) (h : put
       both : (i : Item) → Free i → Agree i → alike (prefixOf name) i ≡ true → ⊥
       both i f a e =
           true≢false
-          (sym (one-item-key name (i .name) (equivalent-sym (prefixOf (i .name)) (prefixOf name) e) (ranked (suffixOf name) (suffixOf (i .name)) w (a e))) ∙ f)
+          (sym (one-item-key name (i .name) (equivalent-sym (prefixOf (i .name)) (prefixOf name) e)
+              (ranked (suffixOf name) (suffixOf (i .name)) w (a e))) ∙ f)
 
   -- its prefix is its whole name
   itself : prefixOf name ≡ name
@@ -134,21 +141,23 @@ module _ (S : State) (name bytes : Bytes) (w : suffixOf name ≡ Whole) (h : put
     where
       go : (m : ItemName) → itemName name ≡ m → itemRefusal m ≡ 0 → prefixOf name ≡ name
       go (Named n x) e f =
-          prefix-named name n x e ∙ ap (λ (k : ℕ). take k name) (prefix-part name n x e .2 (sym (suffix-named name n x e) ∙ w)) ∙ take-length name
+          prefix-named name n x e ∙ ap (λ (k : ℕ). take k name) (prefix-part name n x e .2 (sym (suffix-named name n x e) ∙ w))
+              ∙ take-length name
       go (Refused k) e f = absurd (refused-number name k e f)
 
   group-new : group name (changeMade S (PutItem name bytes) .items) ≡ (record { name = name; bytes = bytes }) ∷ []
   unfolding group
   group-new =
-      ap (λ (p : Bytes). those (alike p) (changeMade S (PutItem name bytes) .items)) (sym itself)
-      ∙ those-insert keyOfItem (alike (prefixOf name)) (record { name = name; bytes = bytes }) (S .items) (equivalent-refl (prefixOf name)) alone
+      ap (λ (p : Bytes). filter (alike p) (changeMade S (PutItem name bytes) .items)) (sym itself)
+      ∙ filter-insert keyOfItem (alike (prefixOf name)) (record { name = name; bytes = bytes }) (S .items)
+          (equivalent-refl (prefixOf name)) alone
 
   named : partName name ≡ true
   unfolding putItemRefusal
   named = ap partName (sym itself) ∙ accepted-prefix name (all-none _ h .0) .0
 
   read-new : (size : ℕ) → printed (changeMade S (PutItem name bytes)) size (ReadPart name 0) ≡ Text (take size bytes) []
-  unfolding printed first isPart any content joined
+  unfolding printed first isPart any content flatMap
   read-new size = rw (named, group-new, w, append-nil bytes)
 
 pub whole-items-are-parts : WholeItemsAreParts

@@ -11,7 +11,8 @@ use Rattle.model.specs.Fields.{when, suffixOf, last, extensionField, par
 use Rattle.model.specs.Fields.{defaultFields, overrideFields, relationshipFields}
 use Rattle.model.specs.Package.{Item, Default, Override, Relationship, State, itemAt, sameLast}
 use Rattle.model.specs.Package.{Kind, itemKind, defaultKind, overrideKind, relationshipKind, keyOfItem}
-use Rattle.model.specs.Calls.{Change, PutItem, DropItem, PutDefault, DropDefault, PutOverride, DropOverride, PutRelationship, DropRelationship}
+use Rattle.model.specs.Calls.{Change, PutItem, DropItem, PutDefault, DropDefault, PutOverride, DropOverride, PutRelationship}
+use Rattle.model.specs.Calls.{DropRelationship}
 use Rattle.model.specs.Calls.{done, changed, change, changeRefusal, changeMade}
 use Rattle.model.specs.Calls.{putRefusal, dropRefusal, putIn, takenOut, misfits}
 use Rattle.model.specs.Calls.{putItemRefusal, putDefaultRefusal, putOverrideRefusal, putRelationshipRefusal}
@@ -41,7 +42,8 @@ module _ {E : Type 0} (kind : Kind E) (L : Lawful kind) (S : State) (e : E) (own
       none-all _ (each-append (λ (n : ℕ). n ≡ 0) fields _ f (ap (λ (o : Option E). when (not (held o)) 13) found, tt))
 
   -- a drop that is accepted there, and takes out the entry
-  undo : (d : Change) → changeRefusal (putIn kind S e) d ≡ 0 → changeMade (putIn kind S e) d ≡ takenOut kind (putIn kind S e) (kind .key e) →
+  undo : (d : Change) → changeRefusal (putIn kind S e) d ≡ 0 → changeMade (putIn kind S e) d
+      ≡ takenOut kind (putIn kind S e) (kind .key e) →
       change (changed (putRefusal kind S e own) S (putIn kind S e) .1) d ≡ (done, S)
   unfolding change
   undo d r m =
@@ -68,7 +70,8 @@ undone S (DropItem name) p h = absurd p
 undone S (PutDefault extension type) p h =
     let new : Default = record { extension = extension; type = type } in
     undo defaultKind default-lawful S new [] h (DropDefault extension)
-    (drop-met defaultKind default-lawful S new [] h (extensionField extension ∷ []) (all-none _ (put-fields defaultKind S new [] h) .0, tt)) refl
+    (drop-met defaultKind default-lawful S new [] h (extensionField extension ∷ []) (all-none _ (put-fields defaultKind S new [] h) .0,
+        tt)) refl
 undone S (DropDefault extension) p h = absurd p
 undone S (PutOverride name type) p h =
     let new : Override = record { name = name; type = type } in

@@ -4,7 +4,7 @@ use Prim.Native.Nat.{_+_, _≤_}
 use mathlib.Core.Path.{_≡_, refl}
 use mathlib.Core.List.{List}
 use native.Mathlib.Omega.{arith}
-use Rattle.model.specs.Sets.{sumOf, Pairs}
+use Rattle.model.specs.Sets.{sumOf, AllPairs}
 use Rattle.model.specs.Package.{State, Kind, itemKind, defaultKind, overrideKind, relationshipKind, charge}
 use Rattle.model.specs.Good.{GoodSet, Beside, Good}
 
@@ -13,11 +13,12 @@ module _ {E : Type 0} (kind : Kind E) where
     -- the new entries are the set's; the old ones, put back, make the old package
     pub own : (S : State) (l : List E) → kind .entries (kind .renewed S l) ≡ l
     pub back : (S : State) (l : List E) → kind .renewed (kind .renewed S l) (kind .entries S) ≡ S
-    pub charged : (S : State) (l : List E) → charge (kind .renewed S l) + sumOf (kind .charge) (kind .entries S) ≡ charge S + sumOf (kind .charge) l
+    pub charged : (S : State) (l : List E) → charge (kind .renewed S l) + sumOf (kind .charge) (kind .entries S)
+        ≡ charge S + sumOf (kind .charge) l
     -- a good package has a good set, and stays good with another one that the capacity and the items bear
     pub set : (S : State) → Good S → GoodSet kind (kind .entries S)
     pub good : (S : State) (l : List E) → Good S → GoodSet kind l → charge (kind .renewed S l) ≤ S .capacity →
-        Pairs Beside (kind .renewed S l .items) → Good (kind .renewed S l)
+        AllPairs Beside (kind .renewed S l .items) → Good (kind .renewed S l)
 
 pub item-lawful : Lawful itemKind
 unfolding charge

@@ -18,11 +18,14 @@ use Rattle.names.specs.declared.items.Suffix.the-variants.{Whole, Piece}
 use Rattle.names.specs.declared.items.ItemName.{ItemName}
 use Rattle.iri.specs.Targets.{internal, resolvePath, sourceRefusal, internalRefusal, targetRefusal}
 use Rattle.model.specs.Sets.{Bytes, Key, held, any, lookup, Each}
-use Rattle.model.specs.Fields.{when, first, prefixOf, suffixOf, askedField, itemField, partField, extensionField, sourceField, idField, packageField, targetField}
+use Rattle.model.specs.Fields.{when, first, prefixOf, suffixOf, askedField, itemField, partField, extensionField, sourceField}
+use Rattle.model.specs.Fields.{idField, packageField, targetField}
 use Rattle.model.specs.Fields.{defaultFields, overrideFields, relationshipFields}
-use Rattle.model.specs.Package.{Item, Default, Override, Relationship, State, Kind, itemKind, defaultKind, overrideKind, relationshipKind}
+use Rattle.model.specs.Package.{Item, Default, Override, Relationship, State, Kind, itemKind, defaultKind, overrideKind}
+use Rattle.model.specs.Package.{relationshipKind}
 use Rattle.model.specs.Package.{itemKey, nameKey, relationshipKey, keyOfItem, group, disagrees, grows, itemAt}
-use Rattle.model.specs.Calls.{Change, PutItem, DropItem, PutDefault, DropDefault, PutOverride, DropOverride, PutRelationship, DropRelationship}
+use Rattle.model.specs.Calls.{Change, PutItem, DropItem, PutDefault, DropDefault, PutOverride, DropOverride, PutRelationship}
+use Rattle.model.specs.Calls.{DropRelationship}
 use Rattle.model.specs.Calls.{Numbered, noRoom, putRefusal, dropRefusal, misfits, clash, changeRefusal, askedRefusal}
 use Rattle.model.specs.Calls.{putItemRefusal, putDefaultRefusal, putOverrideRefusal, putRelationshipRefusal}
 use Rattle.model.specs.Calls.{dropItemRefusal, dropDefaultRefusal, dropOverrideRefusal, dropRelationshipRefusal}
@@ -90,7 +93,8 @@ unfolding targetRefusal internalRefusal
 target-field-numbered m s t =
     let nine : Numbered 9 = numbered 9 (omega arith) (omega arith) in
     cond-numbered (eqb m 0) (internalRefusal s t) (cond (iri t) 0 9)
-    (cond-numbered (internal t && partName (resolvePath s t)) (cond (reserved (resolvePath s t)) 5 0) 9 (reserved-numbered (resolvePath s t)) nine)
+    (cond-numbered (internal t && partName (resolvePath s t)) (cond (reserved (resolvePath s t)) 5 0) 9
+        (reserved-numbered (resolvePath s t)) nine)
     (cond-numbered (iri t) 0 9 zero-numbered nine)
 
 -- the tests that stand in several calls
@@ -166,4 +170,5 @@ change-numbered S (DropRelationship s i) =
 -- the fields of a resolution, and of a stream's source
 pub resolve-fields-numbered : (s i base : Bytes) → Numbered (first (sourceField s ∷ idField i ∷ packageField base ∷ []))
 resolve-fields-numbered s i base =
-    all-numbered _ (source-field-numbered s, (eight (not (identifier i)), (when-numbered (not (packageIri base)) 9 (omega arith) (omega arith), tt)))
+    all-numbered _ (source-field-numbered s,
+        (eight (not (identifier i)), (when-numbered (not (packageIri base)) 9 (omega arith) (omega arith), tt)))

@@ -19,7 +19,8 @@ unfolding first
 all-none [] e = tt
 all-none (n ∷ ns) e = go (eqb n 0) refl e (all-none ns)
   where
-    go : (b : Bool) → eqb n 0 ≡ b → cond b (first ns) n ≡ 0 → (first ns ≡ 0 → Each (λ (m : ℕ). m ≡ 0) ns) → (n ≡ 0) × Each (λ (m : ℕ). m ≡ 0) ns
+    go : (b : Bool) → eqb n 0 ≡ b → cond b (first ns) n ≡ 0 → (first ns ≡ 0 → Each (λ (m : ℕ). m ≡ 0) ns) →
+        (n ≡ 0) × Each (λ (m : ℕ). m ≡ 0) ns
     go true f h k = (eqb-true n 0 f, k h)
     go false f h k = absurd (eqb-false n 0 f h)
 
@@ -45,7 +46,8 @@ unmet false n l e = refl
 
 -- there is room: the charge stays within C, and the set is not full
 pub room-charge : (limit count added : ℕ) (S : State) → noRoom limit count added S ≡ false → charge S + added ≤ S .capacity
-room-charge limit count added S e = ltb-false (S .capacity) (charge S + added) (or-false-right (leb limit count) (ltb (S .capacity) (charge S + added)) e)
+room-charge limit count added S e =
+    ltb-false (S .capacity) (charge S + added) (or-false-right (leb limit count) (ltb (S .capacity) (charge S + added)) e)
 
 pub room-count : (limit count added : ℕ) (S : State) → noRoom limit count added S ≡ false → count < limit
 room-count limit count added S e = leb-false limit count (or-false-left (leb limit count) (ltb (S .capacity) (charge S + added)) e)

@@ -9,18 +9,21 @@ use lib.Dec.{ltb}
 use lib.ListN.{length}
 use borrow.Author.Tests.{ltb-false}
 use Rattle.chars.specs.Folding.{equivalent}
-use Rattle.model.specs.Sets.{Bytes, Key, sameKey, sumOf, insert, remove, Each, Pairs}
+use Rattle.model.specs.Sets.{Bytes, Key, sameKey, sumOf, insert, remove, Each, AllPairs}
 use Rattle.model.specs.Fields.{prefixOf, suffixOf}
-use Rattle.model.specs.Package.{Item, State, Kind, itemKind, defaultKind, overrideKind, relationshipKind, empty, charge, group, disagrees, grows}
+use Rattle.model.specs.Package.{Item, State, Kind, itemKind, defaultKind, overrideKind, relationshipKind, empty, charge, group}
+use Rattle.model.specs.Package.{disagrees, grows}
 use Rattle.model.specs.Package.{itemKey, nameKey, relationshipKey, keyOfItem}
 use Rattle.model.specs.Calls.{Call, Start, Looks, Changes, Prints, capacityLimit, overhead, startRefusal, step, after}
-use Rattle.model.specs.Calls.{Change, PutItem, DropItem, PutDefault, DropDefault, PutOverride, DropOverride, PutRelationship, DropRelationship}
+use Rattle.model.specs.Calls.{Change, PutItem, DropItem, PutDefault, DropDefault, PutOverride, DropOverride, PutRelationship}
+use Rattle.model.specs.Calls.{DropRelationship}
 use Rattle.model.specs.Calls.{putRefusal, putIn, takenOut, misfits, changeRefusal, changeMade, change}
 use Rattle.model.specs.Calls.{putItemRefusal, putDefaultRefusal, putOverrideRefusal, putRelationshipRefusal}
 use Rattle.model.specs.Good.{GoodSet, Beside, Good}
 use Rattle.model.proofs.Bools.{or-false-left}
-use Rattle.model.proofs.Lists.{each-map, each-both, any-none, any-those-none}
-use Rattle.model.proofs.Sets.{Absent, each-insert, pairs-insert, sorted-insert, each-remove, pairs-remove, sorted-remove, length-insert, length-remove}
+use Rattle.model.proofs.Lists.{each-map, each-both, any-none, any-filter-none}
+use Rattle.model.proofs.Sets.{Absent, each-insert, pairs-insert, sorted-insert, each-remove, pairs-remove, sorted-remove}
+use Rattle.model.proofs.Sets.{length-insert, length-remove}
 use Rattle.model.proofs.Refusals.{unmet, changed-good}
 use Rattle.model.proofs.Items.{beside-new, beside-comm}
 use Rattle.model.proofs.KindLaws.{Lawful, item-lawful, default-lawful, override-lawful, relationship-lawful}
@@ -32,7 +35,8 @@ module _ {E : Type 0} (kind : Kind E) where
   pub empty-set : GoodSet kind []
   empty-set = record { sorted = tt; few = omega arith; fielded = tt }
 
-  pub insert-set : (e : E) (xs : List E) → GoodSet kind xs → Absent (kind .key) (kind .key e) xs → kind .fields e ≡ 0 → length xs < kind .limit →
+  pub insert-set : (e : E) (xs : List E) → GoodSet kind xs → Absent (kind .key) (kind .key e) xs → kind .fields e ≡ 0 →
+      length xs < kind .limit →
       GoodSet kind (insert (kind .key) e xs)
   insert-set e xs g free f l = record {
     sorted = sorted-insert (kind .key) e xs free (g .sorted);
@@ -69,13 +73,13 @@ start-good room C h =
 
 -- CHANGES OF A KIND; what they ask of the items, they do not ask of another set
 module _ {E : Type 0} (kind : Kind E) (L : Lawful kind) (S : State) (g : Good S) where
-  pub put-good : (e : E) (own : List ℕ) → putRefusal kind S e own ≡ 0 → Pairs Beside (putIn kind S e .items) → Good (putIn kind S e)
+  pub put-good : (e : E) (own : List ℕ) → putRefusal kind S e own ≡ 0 → AllPairs Beside (putIn kind S e .items) → Good (putIn kind S e)
   put-good e own h =
       L .good S (insert (kind .key) e (kind .entries S)) g
       (insert-set kind e (kind .entries S) (L .set S g) (put-free kind S e own h) (put-fields kind S e own h) (put-few kind S e own h))
       (omega (arith, charge-put kind L S e, put-within kind S e own h))
 
-  pub drop-good : (k : Key) → Pairs Beside (takenOut kind S k .items) → Good (takenOut kind S k)
+  pub drop-good : (k : Key) → AllPairs Beside (takenOut kind S k .items) → Good (takenOut kind S k)
   drop-good k =
       L .good S (remove (kind .key) k (kind .entries S)) g (remove-set kind k (kind .entries S) (L .set S g))
       (omega (arith, charge-drop-le kind L S k, g .within))
@@ -90,10 +94,11 @@ module _ (S : State) (new : Item) (h : putRefusal itemKind S new (misfits (new .
       let p₁₂ : 0 < 12 = omega arith in
       let free : Absent keyOfItem (itemKey (new .name)) (S .items) = put-free itemKind S new (misfits (new .name) (S .items)) h in
       let agree =
-      any-those-none (λ (i : Item). disagrees (suffixOf (new .name)) (suffixOf (i .name)))
+      any-filter-none (λ (i : Item). disagrees (suffixOf (new .name)) (suffixOf (i .name)))
       (λ (i : Item). equivalent (prefixOf (i .name)) (prefixOf (new .name))) (S .items) (unmet _ 12 p₁₂ (z .0)) in
       let apart = any-none (λ (i : Item). grows (prefixOf (new .name)) (prefixOf (i .name))) (S .items) (unmet _ 11 p₁₁ (z .1 .0)) in
-      each-both (λ (i : Item). Free i × Agree i) (λ (i : Item). grows (prefixOf (new .name)) (prefixOf (i .name)) ≡ false) (Beside new) (S .items)
+      each-both (λ (i : Item). Free i × Agree i) (λ (i : Item). grows (prefixOf (new .name)) (prefixOf (i .name)) ≡ false) (Beside new)
+          (S .items)
       (λ i a b. beside-new new i (a .0) (a .1) b)
       (each-both Free Agree (λ (i : Item). Free i × Agree i) (S .items) (λ i a b. (a, b)) free agree) apart
     where
@@ -101,9 +106,10 @@ module _ (S : State) (new : Item) (h : putRefusal itemKind S new (misfits (new .
       Free i = sameKey (itemKey (new .name)) (keyOfItem i) ≡ false
 
       Agree : Item → Type 0
-      Agree i = equivalent (prefixOf (i .name)) (prefixOf (new .name)) ≡ true → disagrees (suffixOf (new .name)) (suffixOf (i .name)) ≡ false
+      Agree i = equivalent (prefixOf (i .name)) (prefixOf (new .name)) ≡ true → disagrees (suffixOf (new .name)) (suffixOf (i .name))
+          ≡ false
 
-  pub put-beside : Pairs Beside (S .items) → Pairs Beside (insert keyOfItem new (S .items))
+  pub put-beside : AllPairs Beside (S .items) → AllPairs Beside (insert keyOfItem new (S .items))
   put-beside b =
       pairs-insert keyOfItem Beside new (S .items) new-beside
       (each-map (Beside new) (λ (i : Item). Beside i new) (S .items) (λ i b. beside-comm new i b) new-beside) b
@@ -112,7 +118,8 @@ module _ (S : State) (new : Item) (h : putRefusal itemKind S new (misfits (new .
 pub made-good : (S : State) (c : Change) → Good S → changeRefusal S c ≡ 0 → Good (changeMade S c)
 unfolding putItemRefusal putDefaultRefusal putOverrideRefusal putRelationshipRefusal
 made-good S (PutItem name bytes) g h = put-good itemKind item-lawful S g _ (misfits name (S .items)) h (put-beside S _ h (g .beside))
-made-good S (DropItem name) g h = drop-good itemKind item-lawful S g (itemKey name) (pairs-remove keyOfItem Beside (itemKey name) (S .items) (g .beside))
+made-good S (DropItem name) g h =
+    drop-good itemKind item-lawful S g (itemKey name) (pairs-remove keyOfItem Beside (itemKey name) (S .items) (g .beside))
 made-good S (PutDefault extension type) g h = put-good defaultKind default-lawful S g _ [] h (g .beside)
 made-good S (DropDefault extension) g h = drop-good defaultKind default-lawful S g (nameKey extension) (g .beside)
 made-good S (PutOverride name type) g h = put-good overrideKind override-lawful S g _ [] h (g .beside)

@@ -12,7 +12,8 @@ use Rattle.iri.specs.References.{resolve}
 use Rattle.iri.specs.Targets.{resolvePath}
 use Rattle.iri.specs.Pack.{unfragmented, packIri}
 use Rattle.model.specs.Sets.{Bytes, Key, held, any, lookup, insert, remove}
-use Rattle.model.specs.Fields.{when, first, prefixOf, suffixOf, askedField, itemField, partField, extensionField, sourceField, idField, packageField}
+use Rattle.model.specs.Fields.{when, first, prefixOf, suffixOf, askedField, itemField, partField, extensionField, sourceField}
+use Rattle.model.specs.Fields.{idField, packageField}
 use Rattle.model.specs.Package.{Item, Default, Override, Relationship, State, empty, charge}
 use Rattle.model.specs.Package.{Kind, itemKind, defaultKind, overrideKind, relationshipKind}
 use Rattle.model.specs.Package.{itemKey, nameKey, relationshipKey, keyOfItem, keyOfRelationship}

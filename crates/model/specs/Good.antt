@@ -6,7 +6,7 @@ use mathlib.Core.Bool.{true, false, _||_}
 use mathlib.Core.List.{List}
 use lib.ListN.{length}
 use Rattle.chars.specs.Folding.{equivalent, derivable}
-use Rattle.model.specs.Sets.{Each, Pairs, Sorted}
+use Rattle.model.specs.Sets.{Each, AllPairs, Sorted}
 use Rattle.model.specs.Fields.{prefixOf, suffixOf, whole}
 use Rattle.model.specs.Package.{Item, State, Kind, itemKind, defaultKind, overrideKind, relationshipKind, rank, charge, disagrees}
 use Rattle.model.specs.Calls.{capacityLimit}
@@ -45,7 +45,7 @@ pub record Good (S : State) : Type 0 where
   -- the charge doesn't pass C
   pub within : charge S ≤ S .capacity
   pub items : GoodSet itemKind (S .items)
-  pub beside : Pairs Beside (S .items)
+  pub beside : AllPairs Beside (S .items)
   pub defaults : GoodSet defaultKind (S .defaults)
   pub overrides : GoodSet overrideKind (S .overrides)
   pub relationships : GoodSet relationshipKind (S .relationships)
