@@ -29,9 +29,10 @@ module _ {E : Type 0} (kind : Kind E) (L : Lawful kind) (S : State) (e : E) (own
   out-again : takenOut kind (putIn kind S e) (kind .key e) ≡ S
   out-again =
       let l = insert (kind .key) e (kind .entries S) in
-      ap (λ (m : List E). kind .renewed (kind .renewed S l) (remove (kind .key) (kind .key e) m)) (L .own S l)
-      ∙ ap (kind .renewed (kind .renewed S l)) (remove-insert (kind .key) e (kind .entries S) (put-free kind S e own h))
-      ∙ L .back S l
+      L .again S l (remove (kind .key) (kind .key e) (kind .entries (kind .renewed S l)))
+      ∙ ap (λ (m : List E). kind .renewed S (remove (kind .key) (kind .key e) m)) (L .own S l)
+      ∙ ap (kind .renewed S) (remove-insert (kind .key) e (kind .entries S) (put-free kind S e own h))
+      ∙ L .same S
 
   -- the drop finds the entry
   drop-met : (fields : List ℕ) → Each (λ (n : ℕ). n ≡ 0) fields → dropRefusal kind (putIn kind S e) fields (kind .key e) ≡ 0

@@ -10,9 +10,11 @@ use Rattle.model.specs.Good.{GoodSet, Beside, Good}
 
 module _ {E : Type 0} (kind : Kind E) where
   pub record Lawful : Type 0 where
-    -- the new entries are the set's; the old ones, put back, make the old package
+    -- the new entries are the set's, and take the place of what was there; the own ones change nothing
     pub own : (S : State) (l : List E) → kind .entries (kind .renewed S l) ≡ l
-    pub back : (S : State) (l : List E) → kind .renewed (kind .renewed S l) (kind .entries S) ≡ S
+    pub same : (S : State) → kind .renewed S (kind .entries S) ≡ S
+    pub again : (S : State) (l m : List E) → kind .renewed (kind .renewed S l) m ≡ kind .renewed S m
+    pub capacity : (S : State) (l : List E) → kind .renewed S l .capacity ≡ S .capacity
     pub charged : (S : State) (l : List E) → charge (kind .renewed S l) + sumOf (kind .charge) (kind .entries S)
         ≡ charge S + sumOf (kind .charge) l
     -- a good package has a good set, and stays good with another one that the capacity and the items bear
@@ -24,7 +26,9 @@ pub item-lawful : Lawful itemKind
 unfolding charge
 item-lawful = record {
   own = λ S l. refl;
-  back = λ S l. refl;
+  same = λ S. refl;
+  again = λ S l m. refl;
+  capacity = λ S l. refl;
   charged = λ S l. omega arith;
   set = λ S g. g .items;
   good = λ S l g s w b. record {
@@ -37,7 +41,9 @@ pub default-lawful : Lawful defaultKind
 unfolding charge
 default-lawful = record {
   own = λ S l. refl;
-  back = λ S l. refl;
+  same = λ S. refl;
+  again = λ S l m. refl;
+  capacity = λ S l. refl;
   charged = λ S l. omega arith;
   set = λ S g. g .defaults;
   good = λ S l g s w b. record {
@@ -50,7 +56,9 @@ pub override-lawful : Lawful overrideKind
 unfolding charge
 override-lawful = record {
   own = λ S l. refl;
-  back = λ S l. refl;
+  same = λ S. refl;
+  again = λ S l m. refl;
+  capacity = λ S l. refl;
   charged = λ S l. omega arith;
   set = λ S g. g .overrides;
   good = λ S l g s w b. record {
@@ -63,7 +71,9 @@ pub relationship-lawful : Lawful relationshipKind
 unfolding charge
 relationship-lawful = record {
   own = λ S l. refl;
-  back = λ S l. refl;
+  same = λ S. refl;
+  again = λ S l m. refl;
+  capacity = λ S l. refl;
   charged = λ S l. omega arith;
   set = λ S g. g .relationships;
   good = λ S l g s w b. record {
