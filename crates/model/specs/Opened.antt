@@ -29,15 +29,16 @@ use Rattle.model.specs.Calls.{askedRefusal, look, resolved, printed, fil
 use Rattle.model.specs.Sheet.{withoutEmptyEnd, lineRead, listing, shown, sheet}
 
 unfoldable pub everything : Unit {0}
-unfolding digit letter hexDigit unreserved segmentByte continuation member same begins every firstOf lacks afterLast lastByte split tiled
-    ucschar char2 char3 char4 nameTriplet longUnit unit lower equivalent derivable order foldedOrder endsIn segment partName reserved
-    extensionAt suffix itemName token mediaType extension identifier scheme colonFirst iri packageIri value numeral digits readNumber
-    schemeLength authorityLength afterScheme afterAuthority afterPath schemeOf authorityOf pathOf queryOf fragmentOf recompose firstSegment
-    rule turn turns removeDotSegments merge relativePath transform resolve sourceRefusal internal resolvePath internalRefusal targetRefusal
-    resolveTarget resolveReference unfragmented escape escaped packIri partOrRoot compose slashed lowTriplet decoded packageOf
-    unfragmentedIri packForm resolvePack relationshipsOf relationshipsPart sourceOf sourcePart thenBy keyOrder any filter sumOf flatMap lookup
-    insert remove firstWhere first prefixOf suffixOf itemField defaultFields overrideFields relationshipFields charge group completeFrom
-    isPart content spelling leaders parts itemAt mediaTypeOf quoted typesText relationshipsText startRefusal clash putItemRefusal
-    dropItemRefusal putDefaultRefusal dropDefaultRefusal putOverrideRefusal dropOverrideRefusal putRelationshipRefusal
-    dropRelationshipRefusal change askedRefusal look resolved printed filled answers after withoutEmptyEnd lineRead listing shown sheet
+unfolding digit letter hexDigit unreserved segmentByte continuation member same begins every firstOf lacks afterLast lastByte split
+    tiled ucschar char2 char3 char4 nameTriplet longUnit unit lower equivalent derivable order foldedOrder endsIn segment partName
+    reserved extensionAt suffix itemName token mediaType extension identifier scheme colonFirst iri packageIri value numeral digits
+    readNumber schemeLength authorityLength afterScheme afterAuthority afterPath schemeOf authorityOf pathOf queryOf fragmentOf
+    recompose firstSegment rule turn turns removeDotSegments merge relativePath transform resolve sourceRefusal internal resolvePath
+    internalRefusal targetRefusal resolveTarget resolveReference unfragmented escape escaped packIri partOrRoot compose slashed
+    lowTriplet decoded packageOf unfragmentedIri packForm resolvePack relationshipsOf relationshipsPart sourceOf sourcePart thenBy
+    keyOrder any filter sumOf flatMap lookup insert remove firstWhere first prefixOf suffixOf itemField defaultFields overrideFields
+    relationshipFields charge group completeFrom isPart content spelling leaders parts itemAt mediaTypeOf quoted typesText
+    relationshipsText startRefusal clash putItemRefusal dropItemRefusal putDefaultRefusal dropDefaultRefusal putOverrideRefusal
+    dropOverrideRefusal putRelationshipRefusal dropRelationshipRefusal change askedRefusal look resolved printed filled answers after
+    withoutEmptyEnd lineRead listing shown sheet
 everything = tt
