@@ -11,12 +11,6 @@ pub or-false-right : (a b : Bool) → (a || b) ≡ false → b ≡ false
 or-false-right true b e = absurd (true≢false e)
 or-false-right false b e = e
 
-pub or-comm : (a b : Bool) → (a || b) ≡ (b || a)
-or-comm true true = refl
-or-comm true false = refl
-or-comm false true = refl
-or-comm false false = refl
-
 pub beq-refl : (b : Bool) → Bool·beq b b ≡ true
 beq-refl true = refl
 beq-refl false = refl

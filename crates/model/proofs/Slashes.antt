@@ -1,6 +1,6 @@
 -- A part name does not end with a slash; texts that begin alike stand side by side in their order.
 -- Assumes nothing.
-use Prim.Native.Nat.{ℕ, suc, _+_}
+use Prim.Native.Nat.{ℕ, _+_}
 use mathlib.Core.Path.{_≡_, refl, ap, sym, _∙_}
 use mathlib.Core.Bool.{Bool, true, false, _&&_, cond, true≢false}
 use mathlib.Core.List.{List, [], _∷_, _++_}
@@ -8,45 +8,16 @@ use native.Mathlib.Omega.{arith}
 use lib.Dec.{leb, ltb, eqb}
 use lib.ListN.{length, take}
 use borrow.Author.Tests.{ltb-false, leb-true, eqb-true, eq-eqb}
-use Rattle.chars.specs.Bytes.{slash, within}
-use Rattle.chars.specs.Lists.{same, begins, split, cut, all}
+use Rattle.chars.specs.Bytes.{slash}
+use Rattle.chars.specs.Lists.{same, begins}
 use Rattle.chars.specs.Folding.{lower, fold, order}
 use Rattle.chars.specs.declared.folding.Order.the-variants.{Less, Greater}
-use Rattle.chars.proofs.Bools.{and-left, and-right, and-true, and-false}
+use Rattle.chars.proofs.Bools.{and-left, and-right, and-true}
 use Rattle.chars.proofs.Orders.{less-greater}
-use Rattle.names.specs.Names.{segment, partName}
+use Rattle.names.specs.Names.{partName}
+use Rattle.names.proofs.NameEnds.{part-end}
 
--- A PART NAME DOES NOT END WITH A SLASH
-split-some : (b : ℕ) (s : List ℕ) → split b s ≡ [] → ⊥
-unfolding split
-split-some b [] e = let z : _≡_ {A = ℕ} 0 1 = cc in omega arith
-split-some b (x ∷ s) e = go (eqb x b) (split b s) e
-  where
-    go : (q : Bool) (l : List (List ℕ)) → cut q x l ≡ [] → ⊥
-    go true l e = let z : _≡_ {A = ℕ} 0 1 = cc in omega arith
-    go false [] e = let z : _≡_ {A = ℕ} 0 1 = cc in omega arith
-    go false (y ∷ l) e = let z : _≡_ {A = ℕ} 0 1 = cc in omega arith
-
-split-snoc : (s : List ℕ) → split slash (s ++ slash ∷ []) ≡ split slash s ++ [] ∷ []
-unfolding split
-split-snoc [] = refl
-split-snoc (x ∷ s) = ap (cut (eqb x slash) x) (split-snoc s) ∙ go (eqb x slash) (split slash s) (split-some slash s)
-  where
-    go : (q : Bool) (l : List (List ℕ)) → (l ≡ [] → ⊥) → cut q x (l ++ [] ∷ []) ≡ cut q x l ++ [] ∷ []
-    go true l n = refl
-    go false [] n = absurd (n refl)
-    go false (y ∷ l) n = refl
-
-all-end : (l : List (List ℕ)) → all segment (l ++ [] ∷ []) ≡ false
-unfolding segment
-all-end [] = refl
-all-end (y ∷ l) = rw (all-end l) (and-false (segment y))
-
-part-end : (u : List ℕ) → partName (u ++ slash ∷ []) ≡ false
-unfolding partName
-part-end [] = refl
-part-end (x ∷ u) = rw (split-snoc u, all-end (split slash u)) (and-false (within 2 255 (suc (length (u ++ slash ∷ []))) && eqb x slash))
-
+-- A PART NAME DOES NOT END WITH A SLASH, folded or not
 lower-slash : (x : ℕ) → lower x ≡ slash → x ≡ slash
 unfolding lower
 lower-slash x e = go (leb 65 x) refl (leb x 90) refl e
@@ -85,7 +56,8 @@ begins-between (x ∷ t) (y ∷ a) (z ∷ b) h l e =
     go (ltb y x) refl (ltb x y) refl h (rw f at l) (λ h l. begins-between t a b h l (and-right (eqb z x) (same (take (length t) b) t) e))
   where
     go :
-        (p : Bool) → ltb y x ≡ p → (q : Bool) → ltb x y ≡ q → (cond p Less (cond q Greater (order a t)) ≡ Less → ⊥) → cond p Less (cond q Greater (order a b)) ≡ Less →
+        (p : Bool) → ltb y x ≡ p → (q : Bool) → ltb x y ≡ q → (cond p Less (cond q Greater (order a t)) ≡ Less → ⊥) →
+            cond p Less (cond q Greater (order a b)) ≡ Less →
         ((order a t ≡ Less → ⊥) → order a b ≡ Less → same (take (length t) a) t ≡ true) → (eqb y x && same (take (length t) a) t) ≡ true
     go true i q j h l ih = absurd (h refl)
     go false i true j h l ih = absurd (less-greater (sym l))
