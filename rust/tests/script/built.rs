@@ -46,9 +46,9 @@ fn built_scripts() {
         assert_eq!((script.calls(), script.output_len()), (0, 0));
         let mut calls = Vec::new();
         for code in Code::ALL {
-            let mut call = random_call(&mut random, 100, false);
+            let mut call = random_call(&mut random, 100);
             while call.code != code {
-                call = random_call(&mut random, 100, false);
+                call = random_call(&mut random, 100);
             }
             for text in &mut call.texts[taken_texts(code)..] {
                 text.clear();
@@ -61,6 +61,9 @@ fn built_scripts() {
             ];
             if !takes_number.contains(&code) {
                 call.number = 0;
+            }
+            if code == Code::PutRelationship {
+                call.number %= 2; // the method has two modes
             }
             if code >= Code::ReadPart || code == Code::ViewItem {
                 call.lent = random.below(300);

@@ -53,7 +53,7 @@ fn random_scripts() {
         let capacity = random.pick(&[0, 300, 2000, 6000, 6000]);
         let spare = random.pick(&[0, 0, 1, 700]);
         let mut pair = Pair::new(capacity, spare);
-        let calls = random_calls(&mut random, &pair, capacity as u64, true);
+        let calls = random_calls(&mut random, &pair, capacity as u64);
         let script = [script_of(&calls), random_tail(&mut random)].concat();
         let length = random_length(&mut random, &calls);
         let before = random.bytes(length);
@@ -176,7 +176,7 @@ fn refused_calls() {
     for _ in 0..500 {
         let capacity = random.pick(&[100, 2000]);
         let (mut pair, mut other) = (Pair::new(capacity, 0), Pair::new(capacity, 0));
-        let calls = random_calls(&mut random, &pair, capacity as u64, true);
+        let calls = random_calls(&mut random, &pair, capacity as u64);
         let (out, _) = pair.run(&script_of(&calls), &vec![7; output_of(&calls)]);
         let (mut kept, mut expected, mut rest) = (Vec::new(), Vec::new(), &out[..]);
         for call in calls {

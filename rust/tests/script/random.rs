@@ -51,7 +51,7 @@ pub fn text(random: &mut Random, texts: &[&[u8]]) -> Vec<u8> {
 
 /// A call with the fields that it takes; the others are filled as well, at
 /// times. It is lent nothing yet.
-pub fn random_call(random: &mut Random, lent: u64, any_mode: bool) -> Call {
+pub fn random_call(random: &mut Random, lent: u64) -> Call {
     let code = match random.below(3) {
         0 => random.pick(&[Code::PutItem, Code::PutItem, Code::PutRelationship]),
         _ => match random.pick(&Code::ALL) {
@@ -87,7 +87,7 @@ pub fn random_call(random: &mut Random, lent: u64, any_mode: bool) -> Call {
     let any = random.next();
     let number = match code {
         Code::Start => random.pick(&[lent, lent, lent / 2, lent + 1, CAPACITY_MAX + 1, any]),
-        Code::PutRelationship if any_mode && random.once_in(16) => random.pick(&[2, 1 << 32, any]),
+        Code::PutRelationship if random.once_in(16) => random.pick(&[2, 1 << 32, any]),
         Code::PutRelationship => any % 2,
         Code::ReadPart => random.pick(&[0, 0, 1, 5, 1 << 32, u64::MAX]),
         Code::PartAt => random.pick(&[0, 1, 2, 3, 1 << 32, u64::MAX]),
@@ -114,7 +114,7 @@ pub fn taken_texts(code: Code) -> usize {
 
 /// Random calls for the package of a pair. They are made on a ledger of their
 /// own, to lend some of them just what they need.
-pub fn random_calls(random: &mut Random, pair: &Pair, capacity: u64, any_mode: bool) -> Vec<Call> {
+pub fn random_calls(random: &mut Random, pair: &Pair, capacity: u64) -> Vec<Call> {
     let mut shadow = Ledger::default();
     let lent = pair.length() - OVERHEAD as u64;
     shadow.start(pair.length(), capacity).expect("room");
@@ -122,7 +122,7 @@ pub fn random_calls(random: &mut Random, pair: &Pair, capacity: u64, any_mode: b
     let count = random.below(61);
     let mut calls = Vec::new();
     for _ in 0..count {
-        let mut call = random_call(random, lent, any_mode);
+        let mut call = random_call(random, lent);
         call.lent = LONG;
         reference::script::run(&mut shadow, pair.length(), &call.bytes(), &mut out);
         let exact = reply_at(&out)[2] as usize;
@@ -165,7 +165,7 @@ pub fn random_length(random: &mut Random, calls: &[Call]) -> usize {
 /// What may stand behind the calls of a script: nothing, most often, or what
 /// is no call.
 pub fn random_tail(random: &mut Random) -> Vec<u8> {
-    let whole = random_call(random, 100, true).bytes();
+    let whole = random_call(random, 100).bytes();
     match random.below(8) {
         0 => whole[..random.below(whole.len())].to_vec(),
         1 => {

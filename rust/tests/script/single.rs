@@ -21,7 +21,7 @@ fn one_by_one() {
     for _ in 0..scripts {
         let capacity = random.pick(&[40, 2000, 6000]);
         let mut pair = Pair::new(capacity, random.pick(&[0, 500]));
-        let calls = random_calls(&mut random, &pair, capacity as u64, false);
+        let calls = random_calls(&mut random, &pair, capacity as u64);
         made += run_and_make(&mut random, pair.package.bytes(), &calls);
     }
     println!("one by one: {scripts} scripts, {made} calls made twice");
@@ -86,7 +86,7 @@ fn check_answer(answer: &Answer, call: &Call, lent: &[u8], expected: calls::Answ
 /// the end cut off.
 fn damaged(random: &mut Random) -> Vec<u8> {
     let mut pair = Pair::new(2000, random.pick(&[0, 300]));
-    let calls = random_calls(random, &pair, 2000, true);
+    let calls = random_calls(random, &pair, 2000);
     pair.run(&script_of(&calls), &vec![0; output_of(&calls)]);
     let mut bytes = pair.package.bytes().to_vec();
     for _ in 0..1 + random.below(6) {
@@ -111,7 +111,7 @@ fn damaged_packages() {
     for _ in 0..support::count("ZOMBIRELS_SCRIPTS", SCRIPTS) / 2 {
         let bytes = damaged(&mut random);
         let pair = Pair::new(2000, 0);
-        let calls = random_calls(&mut random, &pair, 2000, false);
+        let calls = random_calls(&mut random, &pair, 2000);
         let mut package = Guarded::new(&bytes);
         none += usize::from(Package::open(package.bytes()).totals().is_err());
         made += run_and_make(&mut random, package.bytes(), &calls);
