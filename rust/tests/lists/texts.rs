@@ -31,7 +31,9 @@ pub const ODD_EXTENSIONS: &[&[u8]] = &[
 ];
 
 #[rustfmt::skip]
-pub const MEDIA_TYPES: &[&[u8]] = &[b"a/b", b"image/tiff", b"Image/TIFF", b"text/xml", b"application/vnd.example.tile+xml", b"!#$/%&'*+-.^_`|~"];
+pub const MEDIA_TYPES: &[&[u8]] = &[
+    b"a/b", b"image/tiff", b"Image/TIFF", b"text/xml", b"application/vnd.example.tile+xml", b"!#$/%&'*+-.^_`|~",
+];
 
 #[rustfmt::skip]
 pub const ODD_MEDIA_TYPES: &[&[u8]] = &[
@@ -59,7 +61,8 @@ pub const BASES: &[&[u8]] = &[
 /// Targets, well-formed or not, in either mode or in one only.
 #[rustfmt::skip]
 pub const TARGETS: &[&[u8]] = &[
-    b"a", b"T3", b"&", b"a&&b", b"a?b&c", b"a/b", b"./a", b"../g", b"../../g", b"../../../g", b"/a/b", b"/", b".", b"..", b"a/", b"./", b"../", b"a//b", b"b.",
+    b"a", b"T3", b"&", b"a&&b", b"a?b&c", b"a/b", b"./a", b"../g", b"../../g", b"../../../g", b"/a/b", b"/", b".", b"..", b"a/",
+    b"./", b"../", b"a//b", b"b.",
     b"/./a", b"/../a", b"a/../b", b"a/./b", b"../b/../c", b"a:b", b"./a:b", b"//h/p", b"/.//a", b"?q", b"#f", b"a?q", b"a#f", b"a#f#g",
     b"http://example.com/x?y#z", b"_rels/.rels", b"_RELS/x.Rels", b"../_rels/a.rels", b"/x/_rels/y.rels", b"x.rels", b"%41", b"a%2fb",
     b"%20", b"\xC3\xA9", b"\xC3\x89", b"\xC3", b"", b"a b", b"[0].piece", b"a/[0].piece", b":a", b"1:a", b"...", b"a..",

@@ -63,7 +63,8 @@ fn pieces() {
 #[test]
 fn types() {
     let mut corpus = Corpus::new("types");
-    let parts = "P /a.xml 1\nP /B.XML 22\nP /c.tif.xml 333\nP /d 4444\nP /e. 5\nP /f.TIFF/g \nP /h.x/[0].last.piece 6\nP /i.y/[0].piece 7\n";
+    let parts = "P /a.xml 1\nP /B.XML 22\nP /c.tif.xml 333\nP /d 4444\nP /e. 5\nP /f.TIFF/g \n\
+        P /h.x/[0].last.piece 6\nP /i.y/[0].piece 7\n";
     let types = [
         "D xml text/xml",
         "D XML text/other",

@@ -10,7 +10,8 @@ const INPUTS: usize = 300;
 /// What random lines are made of.
 #[rustfmt::skip]
 const FIRST: &[&str] = &[
-    "/a", "/A", "/b", "/B.xml", "/b.XML", "/a/b", "/A/c.tif", "/t", "/T", "/t/u", "/x.y.TIF", "/tile-3.tif", "/%20", "/\u{e9}", "/c.", "/%41",
+    "/a", "/A", "/b", "/B.xml", "/b.XML", "/a/b", "/A/c.tif", "/t", "/T", "/t/u", "/x.y.TIF", "/tile-3.tif", "/%20", "/\u{e9}", "/c.",
+    "/%41",
     "a", "/", "/_rels/a.rels", "/x/_RELS/y.Rels",
 ];
 #[rustfmt::skip]
