@@ -7,7 +7,7 @@ use mathlib.Core.List.{List, [], _∷_, _++_, map}
 use native.Mathlib.Omega.{arith}
 use lib.ListN.{length}
 use Rattle.chars.specs.Folding.{fold}
-use Rattle.model.specs.Sets.{Key, isLess, before, Each, Pairs, Sorted}
+use Rattle.model.specs.Sets.{Key, isLess, before, Each, AllPairs, Sorted}
 use Rattle.model.specs.Places.{firstWhere, bound}
 use Rattle.model.specs.Package.{State, keyOfItem, keyOfDefault, keyOfOverride, keyOfRelationship}
 use Rattle.model.specs.Good.{Good}
@@ -26,7 +26,7 @@ module _ {E : Type 0} where
   each-append P [] ys a b = b
   each-append P (x ∷ xs) ys a b = (a .0, each-append P xs ys (a .1) b)
 
-  pairs-append : (R : E → E → Type 0) (xs ys : List E) → Pairs R xs → Pairs R ys → Each (λ (x : E). Each (R x) ys) xs → Pairs R (xs ++ ys)
+  pairs-append : (R : E → E → Type 0) (xs ys : List E) → AllPairs R xs → AllPairs R ys → Each (λ (x : E). Each (R x) ys) xs → AllPairs R (xs ++ ys)
   pairs-append R [] ys a b c = b
   pairs-append R (x ∷ xs) ys a b c = (each-append (R x) xs ys (a .0) (c .0), pairs-append R xs ys (a .1) b (c .1))
 
@@ -39,7 +39,7 @@ module _ {E F : Type 0} (f : E → F) where
   each-under P [] h = tt
   each-under P (x ∷ xs) h = (h .0, each-under P xs (h .1))
 
-  pairs-under : (R : F → F → Type 0) (xs : List E) → Pairs (λ (x y : E). R (f x) (f y)) xs → Pairs R (map f xs)
+  pairs-under : (R : F → F → Type 0) (xs : List E) → AllPairs (λ (x y : E). R (f x) (f y)) xs → AllPairs R (map f xs)
   pairs-under R [] h = tt
   pairs-under R (x ∷ xs) h = (each-under (R (f x)) xs (h .0), pairs-under R xs (h .1))
 
@@ -64,7 +64,7 @@ module _ {E : Type 0} (key : E → Key) (row : E → Row) (n : ℕ) (is : (x : E
       one : (x : E) (ys : List E) → Each (λ (y : E). before (key x) (key y) ≡ true) ys → Each (λ (y : E). before (rowKey (row x)) (rowKey (row y)) ≡ true) ys
       one x ys h = each-map (λ (y : E). before (key x) (key y) ≡ true) (λ (y : E). before (rowKey (row x)) (rowKey (row y)) ≡ true) ys (λ y e. same-before x y ∙ e) h
 
-      go : (ys : List E) → Sorted key ys → Pairs (λ (x y : E). before (rowKey (row x)) (rowKey (row y)) ≡ true) ys
+      go : (ys : List E) → Sorted key ys → AllPairs (λ (x y : E). before (rowKey (row x)) (rowKey (row y)) ≡ true) ys
       go [] h = tt
       go (x ∷ ys) h = (one x ys (h .0), go ys (h .1))
 

@@ -93,8 +93,8 @@ put-named S s bytes k e z = rw (e, ne-eqb k 0 z)
 
 -- an accepted put finds its key free
 free-key : (S : State) (s bytes : Bytes) → putItemRefusal S s bytes ≡ 0 → held (lookup keyOfItem (itemKey s) (S .items)) ≡ false
-unfolding putItemRefusal clash
-free-key S s bytes e = unmet (held (lookup keyOfItem (itemKey s) (S .items))) 10 (omega arith) (all-none _ (all-none _ e .1 .0) .0)
+unfolding putItemRefusal
+free-key S s bytes e = unmet (held (lookup keyOfItem (itemKey s) (S .items))) 10 (omega arith) (all-none _ e .1 .0)
 
 -- the rows with the item's
 inserted-rows : (S : State) (s bytes : Bytes) (r : ℕ) → r ≡ place keyOfItem (itemKey s) (S .items)

@@ -4,7 +4,7 @@
 use Prim.Native.Nat.{ℕ, suc, _+_, _-_, _≤_, _<_}
 use mathlib.Core.Path.{_≡_, refl, ap, ap₂, sym, _∙_, subst}
 use mathlib.Core.Bool.{Bool, true, false, not, _||_, cond, true≢false}
-use mathlib.Core.List.{List, [], _∷_, _++_}
+use mathlib.Core.List.{List, [], _∷_, _++_, append-nil}
 use native.Mathlib.Omega.{arith}
 use lib.Dec.{ltb, eqb}
 use lib.ListN.{length, getD, take, drop, length-map, length-drop, length-append}
@@ -24,7 +24,7 @@ use Rattle.model.specs.Fields.{prefixOf}
 use Rattle.model.specs.Package.{noItem, Item, State, itemKey, keyOfItem, grows}
 use Rattle.model.specs.Good.{Good, Beside}
 use Rattle.model.proofs.Bools.{not-passing}
-use Rattle.model.proofs.Lists.{append-nil, pairs-at, each-at}
+use Rattle.model.proofs.Lists.{pairs-at, each-at}
 use Rattle.model.proofs.Walks.{first-le, first-lt, first-passes, first-le-passing, failing-lt-first, before-first}
 use Rattle.model.proofs.Places.{not-before-monotone}
 use Rattle.model.proofs.ItemNames.{prefixes-named}

@@ -12,6 +12,7 @@ use Rattle.model.specs.Fields.{when, first, itemField}
 use Rattle.model.specs.Package.{State, itemLimit, charge}
 use Rattle.model.specs.Calls.{clash, noRoom, putItemRefusal}
 use Rattle.model.proofs.Numbers.{numbered, zero-numbered}
+use Rattle.model.proofs.Puts.{put-item-steps}
 use Rattle.store.specs.Layout.{countOf, usedOf, capOf}
 use Rattle.contract.specs.Rows.{keyIn}
 use Rattle.contract.specs.Holds.{Holds}
@@ -21,8 +22,9 @@ use Rattle.items.specs.Clashes.{Clashing, Cleared}
 
 -- a name that is accepted: then the clash, then the room
 refusal-is : (S : State) (s bytes : Bytes) → itemField s ≡ 0 → putItemRefusal S s bytes ≡ cond (eqb (clash s (S .items)) 0) (when (noRoom itemLimit (length (S .items)) (length s + length bytes) S) 15) (clash s (S .items))
-unfolding putItemRefusal first
-refusal-is S s bytes e = rw e (go (clash s (S .items)) (when (noRoom itemLimit (length (S .items)) (length s + length bytes) S) 15))
+unfolding first
+refusal-is S s bytes e =
+    put-item-steps S s bytes ∙ rw e (go (clash s (S .items)) (when (noRoom itemLimit (length (S .items)) (length s + length bytes) S) 15))
   where
     same : (w : ℕ) (a : Bool) → eqb w 0 ≡ a → cond a 0 w ≡ w
     same w true f = sym (eqb-true w 0 f)

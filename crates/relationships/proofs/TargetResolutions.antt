@@ -4,7 +4,7 @@ use Prim.Native.Nat.{ℕ, _+_, _≤_, _<_}
 use mathlib.Core.Path.{_≡_, refl, ap, sym, _∙_, subst}
 use mathlib.Core.Bool.{Bool, true, false, not}
 use mathlib.Core.List.{List, [], _∷_, _++_}
-use mathlib.Core.Option.{Option, none, some}
+use mathlib.Core.Option.{Option, none, some, Option·none-ne-some, Option·some-injective}
 use native.Mathlib.Omega.{arith}
 use lib.Dec.{leb, eqb}
 use lib.ListN.{length, take, drop}
@@ -24,12 +24,11 @@ use Rattle.iri.proofs.Judging.{package-few}
 use Rattle.iri.proofs.Sending.{refusing-is}
 use Rattle.model.specs.Sets.{Bytes, lookup}
 use Rattle.model.specs.Fields.{when, first, sourceField, idField, packageField}
-use Rattle.model.specs.Package.{State, Relationship, relationshipKey, keyOfRelationship, group, isPart}
+use Rattle.model.specs.Package.{relationshipKind, State, Relationship, relationshipKey, keyOfRelationship, group, isPart}
 use Rattle.model.specs.Calls.{Prints, ResolveRelationship, Numbered, Text, Refused, choose, flag, resolved, printed, filled, withRelationships}
-use Rattle.model.specs.Good.{fieldsOfRelationship}
 use Rattle.model.proofs.Numbers.{numbered, zero-numbered, resolve-fields-numbered}
 use Rattle.model.proofs.Refusals.{all-none, unmet}
-use Rattle.model.proofs.Lookups.{none-some, some-eq, lookup-each}
+use Rattle.model.proofs.Lookups.{lookup-each}
 use Rattle.model.proofs.Targets.{fielded, target-size}
 use Rattle.store.specs.Layout.{countOf}
 use Rattle.store.specs.Rows.{Row, rowAt, tagAt, rowsOf, fieldOf}
@@ -241,7 +240,7 @@ module _ (p : List ℕ) (o : Open p) (s i base out : Bytes) (k : ℕ) (ek : k �
         where
           unheld : (x : Option Relationship) → rowFor relationshipRow x ≡ none → x ≡ none
           unheld none e = refl
-          unheld (some x) e = absurd (none-some (relationshipRow x) (sym e))
+          unheld (some x) e = absurd (Option·none-ne-some (relationshipRow x) (sym e))
 
       pub resolve-found : r < m → (a : Answer) → RowResolved p r base out a → Ran (Prints (ResolveRelationship s i base) out) p a p
       resolve-found l a w =
@@ -250,7 +249,7 @@ module _ (p : List ℕ) (o : Open p) (s i base out : Bytes) (k : ℕ) (ek : k �
         where
           go : (S : State) → Holds p S → (x : Option Relationship) → sought S ≡ x → rowFor relationshipRow x ≡ some (rowAt p r)
               → a ≡ filled 3 out (printed S (length out) (ResolveRelationship s i base))
-          go S h none e f = absurd (none-some (rowAt p r) f)
+          go S h none e f = absurd (Option·none-ne-some (rowAt p r) f)
           go S h (some x) e f =
-              let g = lookup-each keyOfRelationship (λ (y : Relationship). fieldsOfRelationship y ≡ 0) (relationshipKey s i) (S .relationships) x (h .good .relationships .fielded) e in
-              w .is S h x (sym (some-eq (relationshipRow x) (rowAt p r) f)) g ∙ sym (ap (filled 3 out) (printed-is S (some x) e))
+              let g = lookup-each keyOfRelationship (λ (y : Relationship). relationshipKind .fields y ≡ 0) (relationshipKey s i) (S .relationships) x (h .good .relationships .fielded) e in
+              w .is S h x (sym (Option·some-injective (relationshipRow x) (rowAt p r) f)) g ∙ sym (ap (filled 3 out) (printed-is S (some x) e))

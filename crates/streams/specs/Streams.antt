@@ -3,12 +3,12 @@
 -- Assumes nothing.
 use Prim.Native.Nat.{ℕ, zero, suc, _+_, _-_, _*_, _^_, _≤_, _<_}
 use mathlib.Core.Path.{_≡_}
-use mathlib.Core.List.{List, _++_}
+use mathlib.Core.List.{List, _++_, flatMap}
 use lib.ListN.{length}
 use lib.Seq.{slice}
 use Rattle.iri.specs.Answers.{Answer, Text, written}
 use Rattle.iri.specs.Scratch.{Sent}
-use Rattle.model.specs.Sets.{Bytes, joined}
+use Rattle.model.specs.Sets.{Bytes}
 use Rattle.model.specs.Texts.{declaration}
 use Rattle.model.specs.Calls.{Numbered}
 use Rattle.store.specs.Layout.{slotCount, countOf, usedOf}
@@ -18,7 +18,7 @@ use Rattle.streams.specs.EntryLines.{lineOf}
 
 -- the lines of the rows from f up to t, t itself not included
 abbrev pub linesOf : ℕ → ℕ → List Row → Bytes
-linesOf f t rows = joined lineOf (slice f t rows)
+linesOf f t rows = flatMap lineOf (slice f t rows)
 
 -- no line is longer: a field is below 2 ^ 32 bytes, and each of its bytes is written as five at most
 abbrev pub lineLimit : ℕ

@@ -4,7 +4,7 @@ use Prim.Native.Nat.{ℕ, _+_, _-_, _≤_, _<_}
 use mathlib.Core.Path.{_≡_, refl, ap, sym, _∙_, subst}
 use mathlib.Core.Bool.{Bool, true, false, not, cond}
 use mathlib.Core.List.{List, [], _∷_}
-use mathlib.Core.Option.{Option, none, some}
+use mathlib.Core.Option.{Option, none, some, Option·none-ne-some, Option·some-injective}
 use native.Mathlib.Omega.{arith}
 use lib.Dec.{eqb}
 use lib.ListN.{length, take, drop, length-drop}
@@ -19,7 +19,6 @@ use Rattle.model.specs.Sets.{Bytes, lookup}
 use Rattle.model.specs.Fields.{first}
 use Rattle.model.specs.Package.{State, Default, Override, nameKey, keyOfDefault, keyOfOverride, typeOf, typeOfDefault, defaultFor, mediaTypeOf}
 use Rattle.model.specs.Calls.{Prints, MediaType, printed, withDefaults, withOverrides}
-use Rattle.model.proofs.Lookups.{none-some, some-eq}
 use Rattle.model.proofs.Numbers.{numbered}
 use Rattle.store.specs.Layout.{countOf}
 use Rattle.store.specs.Rows.{Row, rowAt, rowsOf, fieldOf}
@@ -40,21 +39,21 @@ use Rattle.types.specs.TypeRows.{Typed}
 -- a type stands in the second field of its entry's row
 override-type : (o : Option Override) (d : Option Default) (y : Row) → rowFor overrideRow o ≡ some y → typeOf o d ≡ some (fieldOf y 1)
 unfolding overrideRow fieldOf
-override-type none d y e = absurd (none-some y e)
-override-type (some x) d y e = ap (λ (w : Row). some (fieldOf w 1)) (some-eq (overrideRow x) y e)
+override-type none d y e = absurd (Option·none-ne-some y e)
+override-type (some x) d y e = ap (λ (w : Row). some (fieldOf w 1)) (Option·some-injective (overrideRow x) y e)
 
 override-none : (o : Option Override) → rowFor overrideRow o ≡ none → o ≡ none
 override-none none e = refl
-override-none (some x) e = absurd (none-some (overrideRow x) (sym e))
+override-none (some x) e = absurd (Option·none-ne-some (overrideRow x) (sym e))
 
 default-type : (o : Option Default) (y : Row) → rowFor defaultRow o ≡ some y → typeOfDefault o ≡ some (fieldOf y 1)
 unfolding defaultRow fieldOf
-default-type none y e = absurd (none-some y e)
-default-type (some x) y e = ap (λ (w : Row). some (fieldOf w 1)) (some-eq (defaultRow x) y e)
+default-type none y e = absurd (Option·none-ne-some y e)
+default-type (some x) y e = ap (λ (w : Row). some (fieldOf w 1)) (Option·some-injective (defaultRow x) y e)
 
 default-none : (o : Option Default) → rowFor defaultRow o ≡ none → typeOfDefault o ≡ none
 default-none none e = refl
-default-none (some x) e = absurd (none-some (defaultRow x) (sym e))
+default-none (some x) e = absurd (Option·none-ne-some (defaultRow x) (sym e))
 
 module _ (b : List ℕ) (S : State) (h : Holds b S) (s : Bytes) where
   override-row : lookup rowKey (keyIn 2 s 0 []) (rowsOf b) ≡ rowFor overrideRow (lookup keyOfOverride (nameKey s) (S .overrides))
