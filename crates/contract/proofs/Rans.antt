@@ -29,12 +29,26 @@ passed p o f = absurd (true≢false (sym (o .tested) ∙ f))
 module _ (p : List ℕ) (o : Open p) where
   -- a call that only looks
   pub looked : (q : Look) (a : Answer) → Numbered (a .number) → ((a .number ≡ 0 → ⊥) → a .output ≡ []) → ((S : State) → Holds p S → a ≡ look S q) → Ran (Looks q) p a p
-  looked q a n k e = record { ledger = λ S h. (e S h, h); kept = λ r. (refl, k r); foreign = λ _ f. passed p o f; numbered = λ _ _. n; begun = tt; sized = refl }
+  looked q a n k e = record {
+    ledger = λ S h. (e S h, h);
+    kept = λ r. (refl, k r);
+    foreign = λ _ f. passed p o f;
+    numbered = λ _ _. n;
+    begun = tt;
+    sized = refl;
+  }
 
   -- a call that writes into its output
   pub wrote : (w : Print) (output : List ℕ) (a : Answer) → Numbered (a .number) → ((a .number ≡ 0 → ⊥) → a .output ≡ output) →
       ((S : State) → Holds p S → a ≡ filled (valueCount w) output (printed S (length output) w)) → Ran (Prints w output) p a p
-  wrote w output a n k e = record { ledger = λ S h. (e S h, h); kept = λ r. (refl, k r); foreign = λ _ f. passed p o f; numbered = λ _ _. n; begun = tt; sized = refl }
+  wrote w output a n k e = record {
+    ledger = λ S h. (e S h, h);
+    kept = λ r. (refl, k r);
+    foreign = λ _ f. passed p o f;
+    numbered = λ _ _. n;
+    begun = tt;
+    sized = refl;
+  }
 
   -- a change that is refused
   pub change-refused : (c : Change) (n : ℕ) → Numbered n → ((S : State) → Holds p S → change S c ≡ (refused n, S)) → Ran (Changes c) p (refused n) p
@@ -88,7 +102,8 @@ start-refused C p n e z =
     }
 
 -- a change whose answer and bytes are the ledger's, made or refused
-pub ran-changed : (p : List ℕ) → Open p → (c : Change) (a : Answer) (q : List ℕ) → length q ≡ length p → Numbered (a .number) → ((a .number ≡ 0 → ⊥) → (q ≡ p) × (a .output ≡ [])) →
+pub ran-changed : (p : List ℕ) → Open p → (c : Change) (a : Answer) (q : List ℕ) → length q ≡ length p → Numbered (a .number) →
+    ((a .number ≡ 0 → ⊥) → (q ≡ p) × (a .output ≡ [])) →
     ((S : State) → Holds p S → (a ≡ change S c .0) × Lies q (change S c .1)) → Ran (Changes c) p a q
 ran-changed p o c a q l n k e = record {
   ledger = λ S h. (e S h .0, record { lies = e S h .1; good = change-good S c (h .good) });
@@ -100,11 +115,13 @@ ran-changed p o c a q l n k e = record {
 }
 
 -- a change that is refused by its fields
-pub field-refused : (p : List ℕ) → Open p → (c : Change) (n : ℕ) → (n ≡ 0 → ⊥) → ((S : State) → changeRefusal S c ≡ n) → Ran (Changes c) p (ofDid (Refused n)) p
+pub field-refused : (p : List ℕ) → Open p → (c : Change) (n : ℕ) → (n ≡ 0 → ⊥) → ((S : State) → changeRefusal S c ≡ n) →
+    Ran (Changes c) p (ofDid (Refused n)) p
 unfolding change
 field-refused p o c n z e =
     rw (refusing-is n z (refused n))
-    (change-refused p o c n (subst Numbered (e (empty 0)) (change-numbered (empty 0) c)) (λ S h. ap (λ (j : ℕ). changed j S (changeMade S c)) (e S) ∙ changed-refused n S (changeMade S c) z))
+    (change-refused p o c n (subst Numbered (e (empty 0)) (change-numbered (empty 0) c))
+    (λ S h. ap (λ (j : ℕ). changed j S (changeMade S c)) (e S) ∙ changed-refused n S (changeMade S c) z))
 
 -- A CALL ANSWERS: its number is one of document 01's, whatever the bytes
 start-small : (room C : ℕ) → startRefusal room C ≤ 2

@@ -44,7 +44,7 @@ pub record Weighed (b : List ℕ) (limit : ℕ) (x : Row) (k : ℕ) : Type 0 whe
   pub free : k ≡ 0 → Ordered b → keyTaken b x ≡ false
   pub numbered : Numbered k
 
--- q has the rows rs in the place of those of b, and is else as b
+-- q has the rows rs in the place of those of b, with the same capacity and format
 pub record Became (b q : List ℕ) (rs : List Row) : Type 0 where
   pub sound : Sound q
   pub rows : rowsOf q ≡ rs

@@ -29,6 +29,9 @@ overrideTag = 32769
 abbrev pub relationshipTag : ℕ
 relationshipTag = 32770
 
+abbrev pub externalTag : ℕ
+externalTag = 32771
+
 -- ROWS. An item: its prefix, the rest of its name, its bytes
 unfoldable pub itemRow : Item → Row
 itemRow i = makeRow (tagOf (suffixOf (i .name))) (prefixOf (i .name)) (drop (length (prefixOf (i .name))) (i .name)) (i .bytes) []

@@ -147,7 +147,8 @@ module _ (p : Bytes) (ok : Open p) (s : Bytes) (w : Wanted) (ew : w ≡ wanted (
 
     module _ (r m : ℕ) (er : Located p s r) (em : m ≡ countOf p) where
       pub drop-missing : m ≤ r → Ran (Changes (DropItem s)) p (refused 13) p
-      drop-missing l = change-refused p ok (DropItem s) 13 (numbered 13 (omega arith) (omega arith)) (λ S h. drop-no S s 13 (drop-13 S s (named .2) (er .is S h .missing (omega arith))) (λ z. omega arith))
+      drop-missing l = change-refused p ok (DropItem s) 13 (numbered 13 (omega arith) (omega arith))
+          (λ S h. drop-no S s 13 (drop-13 S s (named .2) (er .is S h .missing (omega arith))) (λ z. omega arith))
 
       pub drop-done : (q : Bytes) → length q ≡ length p → r < m → (Sound p → Removed p q r) → Ran (Changes (DropItem s)) p done q
       drop-done q lq l rm = change-made p ok (DropItem s) q lq (λ S h. out S h)
@@ -169,7 +170,8 @@ module _ (p : Bytes) (ok : Open p) (s : Bytes) (w : Wanted) (ew : w ≡ wanted (
 
     module _ (bytes : Bytes) (r k : ℕ) (eb : Bounded p (keyIn 0 (take n s) t []) r) (ek : Cleared p s (length bytes) r k) where
       pub put-clash : (k ≡ 0 → ⊥) → Ran (Changes (PutItem s bytes)) p (ofDid (did.Refused k)) p
-      put-clash z = rw (refusing-is k z (refused k)) (change-refused p ok (PutItem s bytes) k (ek .numbered) (λ S h. put-no S s bytes k (ek .is S bytes h refl) z))
+      put-clash z = rw (refusing-is k z (refused k))
+          (change-refused p ok (PutItem s bytes) k (ek .numbered) (λ S h. put-no S s bytes k (ek .is S bytes h refl) z))
 
       pub put-room : k ≡ 0 → Room p r (length (take n s) + (length (take (length s - n) (drop n s)) + (length bytes + 0)))
       put-room z = subst (Room p r) sum (ek .room z)
@@ -177,7 +179,8 @@ module _ (p : Bytes) (ok : Open p) (s : Bytes) (w : Wanted) (ew : w ≡ wanted (
           sum : length s + length bytes ≡ length (take n s) + (length (take (length s - n) (drop n s)) + (length bytes + 0))
           sum = rw (take-rest s n, length-take, length-drop) (omega (arith, prefix-in s n (named .0)))
 
-      pub put-done : (q : Bytes) → length q ≡ length p → k ≡ 0 → (Sound p → Inserted p q r (makeRow t (take n s) (take (length s - n) (drop n s)) bytes [])) → Ran (Changes (PutItem s bytes)) p done q
+      pub put-done : (q : Bytes) → length q ≡ length p → k ≡ 0
+          → (Sound p → Inserted p q r (makeRow t (take n s) (take (length s - n) (drop n s)) bytes [])) → Ran (Changes (PutItem s bytes)) p done q
       put-done q lq z ins = change-made p ok (PutItem s bytes) q lq (λ S h. out S h)
         where
           out : (S : State) → Holds p S → (change S (PutItem s bytes) .0 ≡ done) × Lies q (change S (PutItem s bytes) .1)
@@ -186,13 +189,15 @@ module _ (p : Bytes) (ok : Open p) (s : Bytes) (w : Wanted) (ew : w ≡ wanted (
               let e = put-yes S s bytes g in
               let o = ins (h .lies .sound) in
               let pl : r ≡ place keyOfItem (itemKey s) (S .items) =
-              bound-of p s n t (named .0) (named .1) r (countOf p) refl eb S h ∙ bound-place keyOfItem (itemKey s) (S .items) (absent keyOfItem (itemKey s) (S .items) (free-key S s bytes g)) in
+              bound-of p s n t (named .0) (named .1) r (countOf p) refl eb S h
+              ∙ bound-place keyOfItem (itemKey s) (S .items) (absent keyOfItem (itemKey s) (S .items) (free-key S s bytes g)) in
               rw e (
                 refl,
                 record {
                   sound = o .sound;
                   format = o .format ∙ h .lies .format;
-                  rows = o .rows ∙ ap₂ (insertAt r) (made-row s bytes n t (named .0) (named .1)) (h .lies .rows) ∙ inserted-rows S s bytes r pl;
+                  rows = o .rows ∙ ap₂ (insertAt r) (made-row s bytes n t (named .0) (named .1)) (h .lies .rows)
+                      ∙ inserted-rows S s bytes r pl;
                   capacity = o .cap ∙ h .lies .capacity;
                 },
               )

@@ -68,7 +68,8 @@ module _ (p : Bytes) (ok : Open p) (s : Bytes) (w : Wanted) (ew : w ≡ wanted (
   pub find-refused : (k : ℕ) → w ≡ Refused k → Ran (Looks (Find s)) p (ofFound (found.Refused k)) p
   find-refused k e =
       let z = wanted-refused (askedField s) s w ew k e in
-      rw (refusing-is k (z .1) (refused k)) (looked p ok (Find s) (refused k) (subst Numbered (z .0) (asked-field-numbered s)) (λ _. refl) (λ S h. find-no S s k (asked-first S s k (z .0) (z .1)) (z .1)))
+      rw (refusing-is k (z .1) (refused k)) (looked p ok (Find s) (refused k) (subst Numbered (z .0) (asked-field-numbered s)) (λ _. refl)
+      (λ S h. find-no S s k (asked-first S s k (z .0) (z .1)) (z .1)))
 
   pub view-refused : (k : ℕ) → w ≡ Refused k → Ran (Looks (View s)) p (ofView []) p
   view-refused k e =
@@ -86,7 +87,8 @@ module _ (p : Bytes) (ok : Open p) (s : Bytes) (w : Wanted) (ew : w ≡ wanted (
     thirteen e = omega arith
 
     pub find-missing : m ≤ r → Ran (Looks (Find s)) p (refused 13) p
-    find-missing l = looked p ok (Find s) (refused 13) (numbered 13 (omega arith) (omega arith)) (λ _. refl) (λ S h. find-no S s 13 (missed S h l) thirteen)
+    find-missing l = looked p ok (Find s) (refused 13) (numbered 13 (omega arith) (omega arith)) (λ _. refl)
+        (λ S h. find-no S s 13 (missed S h l) thirteen)
 
     pub view-missing : m ≤ r → Ran (Looks (View s)) p (ofView []) p
     view-missing l = looked p ok (View s) (ofView []) zero-numbered (λ _. refl) (λ S h. view-no S s 13 (missed S h l) thirteen)

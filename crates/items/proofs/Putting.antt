@@ -13,7 +13,7 @@ use Rattle.model.specs.Package.{State, itemLimit, charge}
 use Rattle.model.specs.Calls.{clash, noRoom, putItemRefusal}
 use Rattle.model.proofs.Numbers.{numbered, zero-numbered}
 use Rattle.model.proofs.Puts.{put-item-steps}
-use Rattle.store.specs.Layout.{countOf, usedOf, capOf}
+use Rattle.store.specs.Layout.{countOf, usedOf, capOf, slotCount}
 use Rattle.contract.specs.Rows.{keyIn}
 use Rattle.contract.specs.Holds.{Holds}
 use Rattle.contract.specs.Searches.{Bounded, Counted}
@@ -57,7 +57,7 @@ module _ (b s : Bytes) (size r : ℕ) (accepted : itemField s ≡ 0) (k : ℕ) (
     cleared-many l = full (λ S h. rw (le-leb 256 (length (S .items)) (omega (arith, ec .is S h))))
 
     module _ (few : m < 256) where
-      pub cleared-slots : (c : ℕ) → c ≡ countOf b → 640 ≤ c → Cleared b s size r 15
+      pub cleared-slots : (c : ℕ) → c ≡ countOf b → slotCount ≤ c → Cleared b s size r 15
       cleared-slots c e l = full (λ S h.
           absurd (omega (arith, count-rows b S h, length-others S, ec .is S h, h .good .defaults .few, h .good .overrides .few, h .good .relationships .few)))
 
@@ -72,7 +72,7 @@ module _ (b s : Bytes) (size r : ℕ) (accepted : itemField s ≡ 0) (k : ℕ) (
         pub cleared-bytes : length s ≤ f → f - length s < size → Cleared b s size r 15
         cleared-bytes l g = over (omega arith)
 
-        pub cleared : (p : Bytes) (t : ℕ) (id : Bytes) → Bounded b (keyIn 0 p t id) r → (c : ℕ) → c ≡ countOf b → c < 640 → length s ≤ f → size ≤ f - length s → Cleared b s size r 0
+        pub cleared : (p : Bytes) (t : ℕ) (id : Bytes) → Bounded b (keyIn 0 p t id) r → (c : ℕ) → c ≡ countOf b → c < slotCount → length s ≤ f → size ≤ f - length s → Cleared b s size r 0
         cleared p t id eb c e l g i = record {
           is = λ S bytes h y.
               room-is S bytes h y

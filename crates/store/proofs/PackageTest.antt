@@ -24,7 +24,8 @@ and-true false b e = absurd-false e
 -- x0, x3, x8, x12, x16, x20 are the numbers as the code has read them, f the format
 pub package-read :
     (b : List ℕ) (x0 x3 f x8 x12 x16 x20 : ℕ) → heapStart ≤ length b → x0 ≡ num4 b 0 → x3 ≡ num4 b 3 → f ≡ formatOf b → x8 ≡ capOf b → x12 ≡ countOf b → x16 ≡ usedOf b → x20 ≡ endOf b →
-    (eqb x0 0x5043504F && eqb x3 0x4B434150 && eqb f packageFormat && leb x12 slotCount && leb (x8 + heapStart) (length b) && leb x8 maxCapacity && leb x16 x8 && leb x16 x20 && leb (x20 + heapStart) (length b)) ≡ isPackage b
+    (eqb x0 0x5043504F && eqb x3 0x4B434150 && eqb f packageFormat && leb x12 slotCount && leb (x8 + heapStart) (length b)
+    && leb x8 maxCapacity && leb x16 x8 && leb x16 x20 && leb (x20 + heapStart) (length b)) ≡ isPackage b
 unfolding isPackage isMarked mark num4
 package-read b x0 x3 f x8 x12 x16 x20 h e0 e3 ef e8 e12 e16 e20 = rw (le-leb heapStart (length b) h, e0, e3, ef, e8, e12, e16, e20)
 

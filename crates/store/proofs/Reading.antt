@@ -49,12 +49,13 @@ span-none b at n h = record { few = omega arith; inside = omega arith; is = λ l
 pub span-here : (b : List ℕ) (at n : ℕ) → at + n ≤ length b → Spanned b at n at n
 span-here b at n h = record { few = omega arith; inside = h; is = λ _. refl }
 
--- no row has its place there
-pub place-none : (b : List ℕ) (i j : ℕ) → (Sound b → i < countOf b → ⊥) → FieldAt b i j 0 0
-place-none b i j f = record { few = omega arith; inside = omega arith; is = λ so h. absurd (f so h) }
+-- no row has a field there
+pub field-none : (b : List ℕ) (i j : ℕ) → (Sound b → i < countOf b → ⊥) → FieldAt b i j 0 0
+field-none b i j f = record { few = omega arith; inside = omega arith; is = λ so h. absurd (f so h) }
 
-pub place-here : (b : List ℕ) (i j at n a m : ℕ) → Spanned b at n a m → n < 2 ^ 32 → (Sound b → i < countOf b → part a m b ≡ fieldOf (rowAt b i) j) → FieldAt b i j a m
-place-here b i j at n a m s l f = record { few = omega (arith, s .few); inside = s .inside; is = f }
+pub field-here : (b : List ℕ) (i j at n a m : ℕ) → Spanned b at n a m → n < 2 ^ 32
+    → (Sound b → i < countOf b → part a m b ≡ fieldOf (rowAt b i) j) → FieldAt b i j a m
+field-here b i j at n a m s l f = record { few = omega (arith, s .few); inside = s .inside; is = f }
 
 -- the bytes at a field's place
 pub field-at : (b : List ℕ) (i j a n : ℕ) → FieldAt b i j a n

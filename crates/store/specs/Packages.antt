@@ -8,7 +8,8 @@ use Prim.Native.Nat.{ℕ, _+_, _≤_, _<_}
 use lib.Dec.{leb, eqb}
 use lib.ListN.{length}
 use Rattle.store.specs.Buffer.{part, num4}
-use Rattle.store.specs.Layout.{slotCount, heapStart, maxCapacity, mark, formatOf, packageFormat, capOf, countOf, usedOf, endOf, slotOf, offOf, sizeOf}
+use Rattle.store.specs.Layout.{slotCount, heapStart, maxCapacity, mark, formatOf, packageFormat}
+use Rattle.store.specs.Layout.{capOf, countOf, usedOf, endOf, slotOf, offOf, sizeOf}
 use Rattle.store.specs.Rows.{Row, rowsOf, insertAt, removeAt, total}
 
 -- the mark stands at the start: two numbers of four bytes cover its seven
@@ -19,8 +20,8 @@ isMarked b = eqb (num4 b 0) (num4 mark 0) && eqb (num4 b 3) (num4 mark 3)
 unfoldable pub isPackage : List ℕ → Bool
 isPackage b =
     leb heapStart (length b)
-    && (isMarked b && eqb (formatOf b) packageFormat && leb (countOf b) slotCount && leb (capOf b + heapStart) (length b) && leb (capOf b) maxCapacity
-    && leb (usedOf b) (capOf b) && leb (usedOf b) (endOf b) && leb (endOf b + heapStart) (length b))
+    && (isMarked b && eqb (formatOf b) packageFormat && leb (countOf b) slotCount && leb (capOf b + heapStart) (length b)
+    && leb (capOf b) maxCapacity && leb (usedOf b) (capOf b) && leb (usedOf b) (endOf b) && leb (endOf b + heapStart) (length b))
 
 -- what the header must show for every access to be safe
 pub record Shape (b : List ℕ) : Type 0 where
@@ -35,7 +36,8 @@ pub record Shape (b : List ℕ) : Type 0 where
 abbrev pub Apart : List ℕ → List ℕ → Type 0
 Apart s t = (offOf s + sizeOf s ≤ offOf t) ⊎ (offOf t + sizeOf t ≤ offOf s)
 
--- a package as the functions here leave it, whatever its format: every row has a byte at least, the rows' places lie before the end and do not meet
+-- a package as the functions here leave it, whatever its format: every row has a byte at least, the rows' places lie before the end and
+-- do not meet
 pub record Sound (b : List ℕ) : Type 0 where
   pub marked : part 0 7 b ≡ mark
   pub shape : Shape b

@@ -34,7 +34,7 @@ pub record Lowest (b : List ℕ) (n c r : ℕ) : Type 0 where
   pub least : (i : ℕ) → i < n → c ≤ offOf (slotOf b i) → (r < n) × (offOf (slotOf b r) ≤ offOf (slotOf b i))
 
 -- the first k entries of t are slots among the first n, each of a greater offset than those before
-pub record Ordered (b t : List ℕ) (n k : ℕ) : Type 0 where
+pub record ByOffset (b t : List ℕ) (n k : ℕ) : Type 0 where
   pub named : (j : ℕ) → j < k → getD t j 0 < n
   pub rising : (i j : ℕ) → i < j → j < k → offOf (slotOf b (getD t i 0)) < offOf (slotOf b (getD t j 0))
 

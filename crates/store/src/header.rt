@@ -24,6 +24,13 @@ const MARK_START: usize = 0x5043504F;
 
 const MARK_END: usize = 0x4B434150;
 
+// Where the header has the four bytes at the mark's start, those at its end, and the format.
+const MARK_START_AT: usize = 0;
+
+const MARK_END_AT: usize = 3;
+
+const FORMAT_AT: usize = 7;
+
 const FORMAT: u8 = 1;
 
 const MAX_CAPACITY: usize = 1000000;
@@ -46,7 +53,7 @@ fn number(pkg: &[u8], at: usize) -> usize
 pub(crate) fn format(pkg: &[u8]) -> u8
     ensures { λ r. ⌜ r ≡ formatOf (now (pkg .entry)) ⌝ }
 {
-    byte_at(pkg, 7)
+    byte_at(pkg, FORMAT_AT)
 }
 
 // How many rows there are.
@@ -102,8 +109,8 @@ pub fn is_package(pkg: &[u8]) -> bool
     let cap = get4(pkg, CAPACITY_AT);
     let used = get4(pkg, USED_AT);
     let end = get4(pkg, END_AT);
-    (get4(pkg, 0) == MARK_START)
-        & (get4(pkg, 3) == MARK_END)
+    (get4(pkg, MARK_START_AT) == MARK_START)
+        & (get4(pkg, MARK_END_AT) == MARK_END)
         & (format(pkg) == FORMAT)
         & (get4(pkg, COUNT_AT) <= SLOT_COUNT)
         & (cap + HEAP_START <= len)

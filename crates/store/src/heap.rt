@@ -96,7 +96,7 @@ fn gather_each(pkg: &mut [u8], n: usize, e: usize)
 }
 
 // Gathers the rows' bytes at the heap's start, in the order in which they lie. Rows for which no order is confirmed are looked for one by one: so it is with a few.
-pub(crate) fn compact(pkg: &mut [u8])
+fn compact(pkg: &mut [u8])
     requires { ⌜ Shape (now pkg) ⌝ }
     ensures { λ _. ⌜ (Sound (now (pkg .entry)) → Gathered (now (pkg .entry)) (now (pkg .exit))) ⌝ }
 {
