@@ -8,7 +8,7 @@ use iri::references::resolve_reference;
 use iri::relationships::relationships_part;
 use iri::relationships::source_of;
 use iri::targets::resolve_target;
-ghost use Rattle.iri.specs.Answers.{written};
+ghost use Rattle.output.specs.Answers.{written};
 ghost use Rattle.iri.specs.Targets.{resolveReference, resolveTarget};
 ghost use Rattle.iri.specs.Pack.{compose as composed, resolvePack, located};
 ghost use Rattle.iri.specs.Relationships.{relationshipsPart, sourcePart};

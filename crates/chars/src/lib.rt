@@ -1,6 +1,5 @@
 // Bytes and characters: folding, searching.
 pub mod folding;
-pub mod numbers;
 pub mod search;
 pub mod starts;
 pub mod units;

@@ -9,7 +9,7 @@ use native.Mathlib.Omega.{arith}
 use lib.Dec.{leb, ltb, eqb}
 use lib.ListN.{length, getD, take, drop}
 use borrow.Author.Tests.{lt-ltb, le-ltb, le-leb, lt-leb, leb-true, leb-false, ltb-true, ltb-false}
-use Rattle.iri.proofs.Sending.{refusing-is}
+use Rattle.output.proofs.Answering.{refusing-is}
 use Rattle.model.specs.Sets.{Bytes, Key, sameKey, held, lookup, insert, remove}
 use Rattle.model.specs.Places.{bound, place, spot}
 use Rattle.model.specs.Calls.{done, refused}

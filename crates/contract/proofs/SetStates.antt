@@ -9,7 +9,7 @@ use native.Mathlib.Omega.{arith}
 use lib.Dec.{leb, ltb}
 use lib.ListN.{length}
 use borrow.Author.Tests.{leb-false}
-use Rattle.iri.specs.Answers.{Answer}
+use Rattle.output.specs.Answers.{Answer}
 use Rattle.model.specs.Sets.{Key, held, lookup, insert, remove, Each}
 use Rattle.model.specs.Fields.{when, first}
 use Rattle.model.specs.Package.{Relationship, State, defaultLimit, overrideLimit, relationshipLimit, keyOfDefault, keyOfOverride, keyOfRelationship, charge}

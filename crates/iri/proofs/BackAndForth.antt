@@ -17,7 +17,7 @@ use Rattle.chars.proofs.Equivalence.{equivalent-refl, fold-equivalent, equivale
 use Rattle.chars.proofs.Searches.{last-le}
 use Rattle.names.specs.Names.{lastSegment, folder, reserved}
 use Rattle.names.proofs.Reserved.{second-le}
-use Rattle.iri.specs.Answers.{Text, unless}
+use Rattle.output.specs.Answers.{Text, provided}
 use Rattle.iri.specs.Relationships.{sourceOf, sourcePart, BackOfForth, relationshipsOf, ForthOfBack, BackOfEquivalent}
 use Rattle.iri.specs.Targets.{sourceRefusal}
 use Rattle.iri.proofs.FoldedNames.{fold-append, equivalent-length, equivalent-reserved, equivalent-sources, equivalent-back}
@@ -103,7 +103,7 @@ module _ (f l : List ℕ) (ef : afterLast slash f ≡ length f) (el : afterLast 
   part-length : length part ≡ length (f ++ l) + 11
   part-length = simp length-append (omega arith)
 
-  part-back : (s : List ℕ) → f ++ l ≡ s → sourceRefusal s ≡ 0 → sourcePart part ≡ Text s
+  part-back : (s : List ℕ) → f ++ l ≡ s → sourceRefusal s ≡ 0 → sourcePart part ≡ Text s []
   unfolding sourcePart
   part-back s e h =
       let n : length part ≤ 266 = omega (arith, part-length, ap length e, source-few s h) in
@@ -116,7 +116,7 @@ back-of-forth s h =
     part-back (take (afterLast slash s) s) (lastSegment s) (last-take slash s ∙ sym n) (last-drop slash s) s (take-append-drop (afterLast slash s) s) h
 
 -- forth of back
-text-is : (c : Bool) (t x : List ℕ) → unless c 4 (Text t) ≡ Text x → (c ≡ true) × (t ≡ x)
+text-is : (c : Bool) (t x : List ℕ) → provided c 4 (Text t []) ≡ Text x [] → (c ≡ true) × (t ≡ x)
 text-is true t x e = (refl, cc)
 text-is false t x e = let z : _≡_ {A = ℕ} 0 1 = cc in absurd (omega arith)
 

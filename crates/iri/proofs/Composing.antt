@@ -11,14 +11,15 @@ use lib.Seq.{drop-append-seam, drop-drop, take-append-seam, length-take-le}
 use borrow.Author.Tests.{not-true, not-false}
 use Rattle.chars.specs.Bytes.{numberSign, ascii}
 use Rattle.chars.specs.Lists.{indexOf}
-use Rattle.chars.proofs.Searches.{take-rest, index-le}
+use Rattle.base.proofs.Lists.{take-rest}
+use Rattle.chars.proofs.Searches.{index-le}
 use Rattle.names.specs.Iris.{packageIri}
-use Rattle.iri.specs.Answers.{No, Text}
+use Rattle.output.specs.Answers.{Refused, Text}
 use Rattle.iri.specs.Pack.{compose, partOrRoot, escaped, packIri, unfragmented}
-use Rattle.iri.specs.Scratch.{Sent, Fitted}
+use Rattle.output.specs.Sends.{Sent, Fitted}
 use Rattle.iri.proofs.Escapes.{escaped-few}
 use Rattle.iri.proofs.Judging.{package-few, part-or-root-few}
-use Rattle.iri.proofs.Sending.{append-none}
+use Rattle.output.proofs.Sending.{sent-start, append-none}
 
 -- a text h at the start of an output, and n written into the rest after it
 module _ (h n out o₂ zs : List ℕ) (a m : ℕ) (ea : a ≡ length h) (l : a + length n ≤ length out) (e₂ : o₂ ≡ h ++ drop (length h) out) (s : Sent (take (length o₂ - a) (drop a o₂)) 0 n m zs) where
@@ -29,7 +30,7 @@ module _ (h n out o₂ zs : List ℕ) (a m : ℕ) (ea : a ≡ length h) (l : a +
   rest-is = take-rest o₂ a ∙ cut
 
   zs-is : zs ≡ n ++ drop (length h + length n) out
-  zs-is = s .fits (rw (rest-is, length-drop) (omega arith)) ∙ rw (rest-is, zero-add (length n), drop-drop (length n) (length h) out)
+  zs-is = sent-start _ zs n m s (rw (rest-is, length-drop) (omega arith)) ∙ rw (rest-is, drop-drop (length n) (length h) out)
 
   pub seam : take a o₂ ++ (zs ++ drop (length o₂ - a) (drop a o₂)) ≡ (h ++ n) ++ drop (length (h ++ n)) out
   seam =
@@ -86,7 +87,7 @@ module _ (p n : List ℕ) (lp : length p ≤ 255) (ln : length n ≤ 511) (k : �
         l′ = rw kept-out at l
 
         o₂-is : o₂ ≡ head ++ drop (length head) out
-        o₂-is = s₂ .fits (omega (arith, a-is)) ∙ rw (kept-out, zero-add (length head))
+        o₂-is = sent-start (ys ++ out) o₂ head b s₂ (omega (arith, a-is)) ∙ rw kept-out
 
         pub pack-sent : Fitted out (packIri p n) (a + length n) (take a o₂ ++ (zs ++ drop (length o₂ - a) (drop a o₂)))
         pack-sent = record {
@@ -97,7 +98,7 @@ module _ (p n : List ℕ) (lp : length p ≤ 255) (ln : length n ≤ 511) (k : �
 
 -- a package IRI and a name, judged
 module _ (p n : List ℕ) (x : Bool) (ex : x ≡ packageIri p) where
-  pub compose-9 : not x ≡ true → compose p n ≡ No 9
+  pub compose-9 : not x ≡ true → compose p n ≡ Refused 9
   unfolding compose
   compose-9 q = rw (← ex, not-true x q)
 
@@ -105,7 +106,7 @@ module _ (p n : List ℕ) (x : Bool) (ex : x ≡ packageIri p) where
     hx : x ≡ true
     hx = not-false x gx
 
-    pub compose-4 : not y ≡ true → compose p n ≡ No 4
+    pub compose-4 : not y ≡ true → compose p n ≡ Refused 4
     unfolding compose
     compose-4 q = rw (← ex, hx, ← ey, not-true y q)
 
@@ -119,6 +120,6 @@ module _ (p n : List ℕ) (x : Bool) (ex : x ≡ packageIri p) where
       pub part-few : length n ≤ 511
       part-few = omega (arith, part-or-root-few n (sym ey ∙ hy))
 
-      pub compose-text : compose p n ≡ Text (packIri p n)
+      pub compose-text : compose p n ≡ Text (packIri p n) []
       unfolding compose
       compose-text = rw (← ex, hx, ← ey, hy)

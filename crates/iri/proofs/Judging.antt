@@ -1,9 +1,9 @@
 -- Sources and targets of relationships, from what their judges ensure.
 -- Assumes nothing.
-use Prim.Native.Nat.{ℕ, _≤_, _+_, _<_, zero, suc}
+use Prim.Native.Nat.{ℕ, _≤_, _+_, _<_}
 use mathlib.Core.Path.{_≡_, refl, _∙_, sym, ap}
 use mathlib.Core.Bool.{true, _&&_, Bool, _||_, false, not, cond}
-use mathlib.Core.List.{List}
+use mathlib.Core.List.{List, []}
 use native.Mathlib.Omega.{arith}
 use lib.Dec.{leb, eqb}
 use lib.ListN.{length, getD, drop, take}
@@ -17,11 +17,11 @@ use Rattle.chars.proofs.Bools.{and-right, and-left, and-assoc}
 use Rattle.chars.proofs.Equivalence.{same-eq}
 use Rattle.names.specs.Iris.{iri, colonFirst, scheme, schemeEnd, packageIri}
 use Rattle.names.specs.Names.{partName, segment, reserved}
-use Rattle.iri.specs.Answers.{passing, Outcome, No, Text}
+use Rattle.output.specs.Answers.{Refused, Text}
 use Rattle.iri.specs.Components.{schemeOf, authorityOf, queryOf, fragmentOf}
-use Rattle.iri.specs.Scratch.{SplitAt}
+use Rattle.iri.specs.Scratch.{SplitAt, Reached, NamedAs}
 use Rattle.iri.specs.Pack.{partOrRoot}
-use Rattle.iri.specs.Scratch.{Reached, NamedAs}
+use Rattle.output.proofs.Answering.{unless-refused}
 use Rattle.iri.specs.Targets.{sourceRefusal, internal, internalRefusal, resolvePath, targetRefusal, targetRefusalFrom, resolveTarget}
 use Rattle.iri.specs.declared.targets.Name.{Name}
 use Rattle.iri.proofs.Lists.{length-take-le-length}
@@ -168,19 +168,15 @@ module _ (mode : ℕ) (source target : List ℕ) (l : length source ≤ 255) whe
     unfolding targetRefusal
     refusal-9 q = rw (le-leb (length source) 255 l, ne-eqb mode 0 z, ← ei, q)
 
-pub passing-no : (k : ℕ) (o : Outcome) → (k ≡ 0 → ⊥) → passing k o ≡ No k
-passing-no zero o z = absurd (z refl)
-passing-no (suc k) o z = refl
-
-pub target-source : (source target : List ℕ) (k : ℕ) → k ≡ sourceRefusal source → (k ≡ 0 → ⊥) → resolveTarget source target ≡ No k
+pub target-source : (source target : List ℕ) (k : ℕ) → k ≡ sourceRefusal source → (k ≡ 0 → ⊥) → resolveTarget source target ≡ Refused k
 unfolding resolveTarget
-target-source source target k e z = rw (← e) (passing-no k _ z)
+target-source source target k e z = rw (← e) (unless-refused k _ z)
 
 module _ (source target : List ℕ) (e : sourceRefusal source ≡ 0) where
-  pub target-refused : (k : ℕ) → internalRefusal source target ≡ k → (k ≡ 0 → ⊥) → resolveTarget source target ≡ No k
+  pub target-refused : (k : ℕ) → internalRefusal source target ≡ k → (k ≡ 0 → ⊥) → resolveTarget source target ≡ Refused k
   unfolding resolveTarget
-  target-refused k f z = rw (e, f) (passing-no k _ z)
+  target-refused k f z = rw (e, f) (unless-refused k _ z)
 
-  pub target-text : internalRefusal source target ≡ 0 → resolveTarget source target ≡ Text (resolvePath source target)
+  pub target-text : internalRefusal source target ≡ 0 → resolveTarget source target ≡ Text (resolvePath source target) []
   unfolding resolveTarget
   target-text f = rw (e, f)

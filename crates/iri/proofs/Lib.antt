@@ -1,5 +1,4 @@
 pub mod Lists
-pub mod Sending
 pub mod Splitting
 pub mod DotRules
 pub mod DotTurns

@@ -12,15 +12,14 @@ use borrow.Author.Tests.{not-true, not-false, eq-eqb, ne-eqb, lt-leb, le-leb}
 use Rattle.chars.specs.Bytes.{ascii}
 use Rattle.chars.specs.Folding.{equivalent, order}
 use Rattle.chars.specs.Lists.{none}
-use Rattle.chars.proofs.Searches.{take-rest}
+use Rattle.base.proofs.Lists.{take-rest}
 use Rattle.names.proofs.Reserved.{drop-take}
 use Rattle.iri.specs.Components.{authorityOf, pathOf, authorityLength, afterScheme}
-use Rattle.iri.specs.Scratch.{SplitAt}
-use Rattle.iri.specs.Answers.{answer}
+use Rattle.iri.specs.Scratch.{SplitAt, Placed, PlacedAs}
+use Rattle.output.specs.Answers.{answer}
 use Rattle.iri.specs.Pack.{packForm, partOrRoot, located, Not, resolvePack, Location, ofResolved, Found}
-use Rattle.iri.specs.Scratch.{Placed, PlacedAs}
 use Rattle.iri.specs.declared.pack.Place.{Place}
-use Rattle.iri.proofs.Sending.{refusing-is}
+use Rattle.output.proofs.Answering.{refusing-is}
 use Rattle.iri.proofs.Splitting.{authority-le, authority-length, none-after, authority-two}
 use Rattle.iri.specs.declared.pack.Place.the-variants as place
 use Rattle.iri.specs.declared.pack.Resolved.the-variants as resolved

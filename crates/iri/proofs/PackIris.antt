@@ -3,36 +3,31 @@
 use Prim.Native.Nat.{ℕ}
 use mathlib.Core.Path.{_≡_, refl, ap, _∙_}
 use mathlib.Core.Bool.{Bool, true, false, _&&_}
-use mathlib.Core.List.{List}
+use mathlib.Core.List.{List, []}
 use native.Mathlib.Omega.{arith}
 use lib.Dec.{leb, eqb}
 use lib.ListN.{length, drop}
 use lib.Seq.{take-append-seam}
 use Rattle.names.specs.Iris.{packageIri}
-use Rattle.iri.specs.Answers.{Outcome, Text, unless, written, writtenWhere}
-use Rattle.iri.specs.Pack.{Location, packIri, partOrRoot, compose, located}
+use Rattle.output.specs.Answers.{Outcome, Text, provided, filled, written}
+use Rattle.output.proofs.Answering.{filled-accepted, filled-written}
+use Rattle.iri.specs.Pack.{packIri, partOrRoot, compose}
 use Rattle.iri.specs.Demand.{EveryPackIri, bytesWritten}
 use Rattle.iri.proofs.RoundTrip.{pack-iris-return}
 
 -- the text t of a package IRI and a name, by their judgements
 abbrev judged : Bool → Bool → List ℕ → Outcome
-judged p n t = unless p 9 (unless n 4 (Text t))
+judged p n t = provided p 9 (provided n 4 (Text t []))
 
 judged-accepted : (p n : Bool) (t out : List ℕ) → eqb (written (judged p n t) out .number) 0 ≡ (p && n && leb (length t) (length out))
-judged-accepted true true t out = go (leb (length t) (length out))
-  where
-    go : (f : Bool) → eqb (writtenWhere f t out .number) 0 ≡ f
-    go true = refl
-    go false = refl
+unfolding filled
+judged-accepted true true t out = filled-accepted 1 out t []
 judged-accepted true false t out = refl
 judged-accepted false n t out = refl
 
 judged-written : (p n : Bool) (t out : List ℕ) → written (judged p n t) out .number ≡ 0 → (p ≡ true) × (n ≡ true) × (bytesWritten (written (judged p n t) out) ≡ t)
-judged-written true true t out e = (refl, refl, go (leb (length t) (length out)) e)
-  where
-    go : (f : Bool) → writtenWhere f t out .number ≡ 0 → bytesWritten (writtenWhere f t out) ≡ t
-    go true e = take-append-seam t (drop (length t) out)
-    go false e = absurd (omega arith)
+unfolding filled
+judged-written true true t out e = (refl, refl, ap bytesWritten (filled-written 1 out t [] e) ∙ take-append-seam t (drop (length t) out))
 judged-written true false t out e = absurd (omega arith)
 judged-written false n t out e = absurd (omega arith)
 

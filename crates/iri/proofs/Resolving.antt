@@ -4,7 +4,6 @@ use Prim.Native.Nat.{_-_, ℕ, _≤_, _+_, _<_}
 use mathlib.Core.Path.{_≡_, refl, sym, ap, _∙_}
 use mathlib.Core.Bool.{_&&_, _||_, Bool, true, false, not, cond}
 use mathlib.Core.List.{List, [], _∷_, _++_}
-use native.Mathlib.Nat.{zero-add}
 use native.Mathlib.Omega.{arith}
 use lib.Dec.{leb}
 use lib.ListN.{take, length, drop, length-drop, length-append}
@@ -14,14 +13,15 @@ use Rattle.chars.specs.Bytes.{ascii}
 use Rattle.chars.specs.Folding.{equivalent}
 use Rattle.chars.specs.Lists.{none, same}
 use Rattle.chars.proofs.Bools.{and-right}
-use Rattle.chars.proofs.Searches.{take-rest}
+use Rattle.base.proofs.Lists.{take-rest}
 use Rattle.iri.specs.Components.{pathOf, schemeOf, defined, authorityOf, queryOf, fragmentOf}
 use Rattle.iri.specs.Pack.{packForm, partOrRoot, packageOf, unfragmentedIri, resolvePack, Not, partOf, Found, ofResolved, located}
-use Rattle.iri.specs.Scratch.{Placed, Decoded, Sent}
+use Rattle.iri.specs.Scratch.{Placed, Decoded}
+use Rattle.output.specs.Sends.{Sent}
 use Rattle.iri.proofs.Judging.{part-or-root-few}
 use Rattle.iri.proofs.Lists.{length-take-few}
 use Rattle.iri.proofs.Locating.{located-short, located-found}
-use Rattle.iri.proofs.Sending.{sent-more}
+use Rattle.output.proofs.Sending.{sent-more, sent-start}
 use Rattle.iri.specs.declared.pack.Resolved.the-variants as resolved
 
 zero-take : (l : List ℕ) → take 0 l ≡ []
@@ -90,4 +90,4 @@ module _ (s : List ℕ) (x y : ℕ) (h : Placed s x y) where
             → ofResolved (resolved.Found k m) o₂ ≡ located (resolvePack s) out
         pack-found out o₁ o₂ i j l s₁ e s₂ =
             let w : Sent out 0 (take k b ++ N) j o₂ = sent-more out o₁ o₂ (take k b) N 0 i j s₁ e (rw part-is at s₂) in
-            located-found (resolvePack s) (take k b) N out k m form-is package-end-length m-is o₂ l (w .fits (omega (arith, length-append (take k b) N, package-end-length, m-is)) ∙ rw (zero-add (length (take k b ++ N))))
+            located-found (resolvePack s) (take k b) N out k m form-is package-end-length m-is o₂ l (sent-start out o₂ (take k b ++ N) j w (omega (arith, length-append (take k b) N, package-end-length, m-is)))

@@ -3,7 +3,7 @@
 use Prim.Native.Nat.{_-_, ℕ, _+_, _<_, _≤_}
 use mathlib.Core.Path.{_≡_, ap, _∙_, refl, sym}
 use mathlib.Core.Bool.{Bool, not, true, false, false≢true}
-use mathlib.Core.List.{List, _++_, append-assoc}
+use mathlib.Core.List.{List, [], _++_, append-assoc}
 use native.Mathlib.Omega.{arith}
 use lib.Dec.{leb, eqb}
 use lib.ListN.{take, length, drop, length-drop}
@@ -12,16 +12,16 @@ use Rattle.chars.specs.Bytes.{slash, ascii}
 use Rattle.chars.specs.Folding.{endsIn, equivalent}
 use Rattle.chars.specs.Lists.{afterLast}
 use Rattle.chars.proofs.Bools.{and-false, and-left, and-right}
-use Rattle.chars.proofs.Searches.{take-rest}
+use Rattle.base.proofs.Lists.{take-rest}
 use Rattle.names.specs.Names.{reserved, lastSegment, folder}
 use Rattle.names.proofs.Reserved.{reserved-none, second-le}
-use Rattle.iri.specs.Answers.{No, Text}
+use Rattle.output.specs.Answers.{Refused, Text}
 use Rattle.iri.specs.Relationships.{relationshipsOf, relationshipsPart, sourcePart, sourceOf}
-use Rattle.iri.specs.Scratch.{Sent}
+use Rattle.output.specs.Sends.{Sent}
 use Rattle.iri.specs.Targets.{sourceRefusal}
-use Rattle.iri.proofs.Judging.{passing-no}
+use Rattle.output.proofs.Answering.{unless-refused}
 use Rattle.iri.proofs.Lists.{length-take-few}
-use Rattle.iri.proofs.Sending.{sent-as, sent-more, sent-text}
+use Rattle.output.proofs.Sending.{sent-as, sent-more, sent-text}
 
 pub rels-sent : (s : List ℕ) (q : ℕ) (o o₁ o₂ o₃ o₄ : List ℕ) (a b c d : ℕ) → q ≡ afterLast slash s → Sent o 0 (take q s) a o₁ → length o₁ ≡ length o → Sent o₁ a (ascii "_rels/") b o₂ → length o₂ ≡ length o₁
     → Sent o₂ b (take (length s - q) (drop q s)) c o₃ → length o₃ ≡ length o₂ → Sent o₃ c (ascii ".rels") d o₄ → Sent o 0 (relationshipsOf s) d o₄
@@ -34,19 +34,19 @@ rels-sent s q o o₁ o₂ o₃ o₄ a b c d e s₁ l₁ s₂ l₂ s₃ l₃ s₄
     (l₃ ∙ l₂ ∙ l₁) s₄)
 
 module _ (s : List ℕ) (k : ℕ) (e : k ≡ sourceRefusal s) where
-  pub rels-no : (k ≡ 0 → ⊥) → relationshipsPart s ≡ No k
+  pub rels-no : (k ≡ 0 → ⊥) → relationshipsPart s ≡ Refused k
   unfolding relationshipsPart
-  rels-no z = rw (← e) (passing-no k _ z)
+  rels-no z = rw (← e) (unless-refused k _ z)
 
-  pub rels-text : k ≡ 0 → relationshipsPart s ≡ Text (relationshipsOf s)
+  pub rels-text : k ≡ 0 → relationshipsPart s ≡ Text (relationshipsOf s) []
   unfolding relationshipsPart
   rels-text z = rw (← e, z)
 
-pub back-long : (s : List ℕ) → 266 < length s → sourcePart s ≡ No 4
+pub back-long : (s : List ℕ) → 266 < length s → sourcePart s ≡ Refused 4
 unfolding sourcePart
 back-long s h = rw (lt-leb (length s) 266 h)
 
-pub back-no : (s : List ℕ) (x : Bool) → x ≡ reserved s → not x ≡ true → sourcePart s ≡ No 4
+pub back-no : (s : List ℕ) (x : Bool) → x ≡ reserved s → not x ≡ true → sourcePart s ≡ Refused 4
 unfolding sourcePart
 back-no s x e q = rw (← e, not-true x q, and-false)
 
@@ -93,10 +93,10 @@ module _ (s : List ℕ) (form : reserved s ≡ true) (q : ℕ) (eq : q ≡ after
         j-is : sourceRefusal (sourceOf s) ≡ j
         j-is = ap sourceRefusal (sym source-text) ∙ sym ej
 
-        pub back-refused : (j ≡ 0 → ⊥) → sourcePart s ≡ No 4
+        pub back-refused : (j ≡ 0 → ⊥) → sourcePart s ≡ Refused 4
         unfolding sourcePart
         back-refused z = rw (le-leb (length s) 266 few, form, j-is, ne-eqb j 0 z)
 
-        pub back-text : j ≡ 0 → sourcePart s ≡ Text (take k o₂)
+        pub back-text : j ≡ 0 → sourcePart s ≡ Text (take k o₂) []
         unfolding sourcePart
         back-text z = rw (le-leb (length s) 266 few, form, j-is, eq-eqb j 0 z, source-text)

@@ -7,7 +7,7 @@ use mathlib.Core.List.{List}
 use lib.Dec.{leb, eqb}
 use lib.ListN.{length, getD, take}
 use Rattle.names.specs.Iris.{packageIri}
-use Rattle.iri.specs.Answers.{Answer, written}
+use Rattle.output.specs.Answers.{Answer, written}
 use Rattle.iri.specs.Pack.{unfragmented, packIri, partOrRoot, compose, partOf, Found, resolvePack, located}
 
 -- what the call `compose` answers, for an output that held out

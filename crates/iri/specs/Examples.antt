@@ -15,7 +15,7 @@ use Rattle.iri.specs.References.{firstSegment, rule, turn, turns, remove
 use Rattle.iri.specs.Targets.{sourceRefusal, internal, resolvePath, internalRefusal, resolveTarget, resolveReference}
 use Rattle.iri.specs.Pack.{unfragmented, escape, escaped, packIri, partOrRoot, compose, slashed, lowTriplet, decoded, packageOf, unfragmentedIri, packForm, Location, Found, Not, resolvePack}
 use Rattle.iri.specs.Relationships.{relationshipsOf, relationshipsPart, sourceOf, sourcePart}
-use Rattle.iri.specs.Answers.{Outcome, Text, No}
+use Rattle.output.specs.Answers.{Outcome, Text, Refused}
 
 pub record Row : Type 0 where
   pub got : List ℕ
@@ -26,8 +26,8 @@ row g w = record { got = g; wanted = w }
 
 -- a refusal is shown as the list of its number alone
 abbrev pub shown : Outcome → List ℕ
-shown (Text t) = t
-shown (No k) = k ∷ []
+shown (Text t values) = t
+shown (Refused k) = k ∷ []
 
 abbrev pub both : Location → List ℕ
 both (Found p n) = p ++ n

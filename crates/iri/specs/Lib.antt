@@ -4,6 +4,5 @@ pub mod Targets
 pub mod Pack
 pub mod Demand
 pub mod Relationships
-pub mod Answers
 pub mod Examples
 pub mod Scratch

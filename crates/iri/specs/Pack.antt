@@ -15,7 +15,7 @@ use Rattle.names.specs.Iris.{packageIri}
 use Rattle.iri.specs.Components.{question, comma, atSign, defined, schemeOf, authorityOf, pathOf, queryOf, fragmentOf}
 use Rattle.iri.specs.References.{resolve}
 use Rattle.iri.specs.Targets.{internal, resolvePath}
-use Rattle.iri.specs.Answers.{Outcome, Text, unless, Answer, answer, refusing}
+use Rattle.output.specs.Answers.{Outcome, Text, provided, Answer, answer, refusing}
 use Rattle.iri.specs.declared.pack.Resolved.{Resolved}
 use Rattle.iri.specs.declared.pack.Resolved.the-variants as resolved
 
@@ -48,7 +48,7 @@ partOrRoot n = same n (ascii "/") || partName n
 
 -- "from a package IRI and a part name or `/`": 9, then 4
 unfoldable pub compose : List ℕ → List ℕ → Outcome
-compose p n = unless (packageIri p) 9 (unless (partOrRoot n) 4 (Text (packIri p n)))
+compose p n = provided (packageIri p) 9 (provided (partOrRoot n) 4 (Text (packIri p n) []))
 
 -- "commas become slashes"
 unfoldable pub slashed : ℕ → ℕ

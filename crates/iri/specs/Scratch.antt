@@ -1,9 +1,9 @@
 -- What the inner functions ensure: of a lent output and of scratch that a caller lends, and where they say that a component stands.
 -- Assumes nothing.
-use Prim.Native.Nat.{ℕ, _+_, _-_, _≤_, _<_}
+use Prim.Native.Nat.{ℕ, _+_, _-_, _≤_}
 use mathlib.Core.Path.{_≡_}
 use mathlib.Core.Bool.{Bool, true, false, _||_}
-use mathlib.Core.List.{List, _++_}
+use mathlib.Core.List.{List}
 use lib.ListN.{length, take, drop}
 use Rattle.chars.specs.Bytes.{ascii}
 use Rattle.chars.specs.Lists.{same}
@@ -30,17 +30,6 @@ pub record SplitAt (s : List ℕ) (a b p q : ℕ) : Type 0 where
   pub b-le : b ≤ p
   pub p-le : p ≤ q
   pub q-le : q ≤ length s
-
--- bytes were sent to place at of an output: the next place is counted in any case, and where they fit they stand there and nowhere else
-pub record Sent (out : List ℕ) (at : ℕ) (bytes : List ℕ) (next : ℕ) (out' : List ℕ) : Type 0 where
-  pub next-is : next ≡ at + length bytes
-  pub fits : at + length bytes ≤ length out → out' ≡ take at out ++ (bytes ++ drop (at + length bytes) out)
-
--- a text is written to the start of an output where all of it fits, else the output stays; its length is told in any case
-pub record Fitted (out text : List ℕ) (n : ℕ) (out' : List ℕ) : Type 0 where
-  pub is : n ≡ length text
-  pub fits : n ≤ length out → out' ≡ text ++ drop n out
-  pub short : length out < n → out' ≡ out
 
 -- the code's own name for a rule
 abbrev pub ofMove : Move → Rule

@@ -2,7 +2,7 @@
 -- Assumes nothing.
 use Prim.Native.Nat.{ℕ}
 use mathlib.Core.Bool.{Bool, true, _&&_, cond}
-use mathlib.Core.List.{List}
+use mathlib.Core.List.{List, []}
 use lib.Dec.{leb, eqb}
 use lib.ListN.{length}
 use Rattle.chars.specs.Bytes.{ascii}
@@ -11,7 +11,7 @@ use Rattle.names.specs.Names.{partName, reserved}
 use Rattle.names.specs.Iris.{iri, packageIri}
 use Rattle.iri.specs.Components.{schemeOf, authorityOf, queryOf, fragmentOf}
 use Rattle.iri.specs.References.{relativePath, resolve}
-use Rattle.iri.specs.Answers.{Outcome, Text, unless, passing}
+use Rattle.output.specs.Answers.{Outcome, Text, provided, unless}
 
 -- "a source (`/` for the package, else an unreserved part name)": "4 not a part name; 5 reserved", 0 for none
 unfoldable pub sourceRefusal : List ℕ → ℕ
@@ -41,8 +41,8 @@ targetRefusalFrom mode source target = cond (leb (length source) 255) (targetRef
 
 -- an internal target, resolved: the source by 4, 5, then the target by 9, 5
 unfoldable pub resolveTarget : List ℕ → List ℕ → Outcome
-resolveTarget source target = passing (sourceRefusal source) (passing (internalRefusal source target) (Text (resolvePath source target)))
+resolveTarget source target = unless (sourceRefusal source) (unless (internalRefusal source target) (Text (resolvePath source target) []))
 
 -- an external one, "resolved against the package IRI": both by 9
 unfoldable pub resolveReference : List ℕ → List ℕ → Outcome
-resolveReference base reference = unless (packageIri base && iri reference) 9 (Text (resolve base reference))
+resolveReference base reference = provided (packageIri base && iri reference) 9 (Text (resolve base reference) [])

@@ -6,4 +6,3 @@ pub mod relationships;
 pub mod split;
 pub mod targets;
 pub mod texts;
-pub mod writing;

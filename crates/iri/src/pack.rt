@@ -1,10 +1,8 @@
 // Pack IRIs.
 use crate::split::split;
 use crate::texts::is_root;
-use crate::writing::Written;
-use crate::writing::emit;
+use base::bytes::byte_at;
 use chars::folding::is_equivalent;
-use chars::search::byte_at;
 use chars::search::find;
 use chars::search::has_no;
 use chars::units::hex_value;
@@ -12,6 +10,8 @@ use names::iris::is_package_iri;
 use names::parts::is_part_name;
 use names::table::is_hex_digit;
 use names::table::table;
+use output::writing::Written;
+use output::writing::emit;
 ghost use mathlib.Core.Path.{_≡_};
 ghost use mathlib.Core.List.{_++_};
 ghost use Prim.Native.Nat.{_+_, _≤_};
@@ -24,8 +24,9 @@ ghost use Rattle.chars.specs.Lists.{none};
 ghost use Rattle.chars.specs.Characters.{stands};
 ghost use Rattle.chars.specs.Folding.{equivalent};
 ghost use Rattle.iri.specs.Pack.{escape, escaped, packIri, partOrRoot, compose as composed, slashed, lowTriplet, unfragmentedIri, partOf, resolvePack, ofResolved, located};
-ghost use Rattle.iri.specs.Answers.{ofWritten, written};
-ghost use Rattle.iri.specs.Scratch.{Sent, Fitted, Placed, PlacedAs, Decoded};
+ghost use Rattle.output.specs.Answers.{ofWritten, written};
+ghost use Rattle.output.specs.Sends.{Sent, Fitted};
+ghost use Rattle.iri.specs.Scratch.{Placed, PlacedAs, Decoded};
 
 fn is_part_or_root(n: &[u8]) -> bool
     ensures { λ r. ⌜ r ≡ partOrRoot (now (n .entry)) ⌝ }

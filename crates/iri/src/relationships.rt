@@ -1,18 +1,18 @@
 // The Relationships part of a source, and back.
 use crate::targets::source_refusal;
-use crate::writing::Written;
-use crate::writing::emit;
-use crate::writing::put_text;
 use chars::search::find_past;
 use names::parts::is_reserved;
+use output::writing::Written;
+use output::writing::emit;
+use output::writing::put_text;
 ghost use mathlib.Core.Path.{_≡_};
 ghost use mathlib.Core.Bool.{true};
 ghost use Prim.Native.Nat.{_≤_};
 ghost use lib.ListN.{length};
 ghost use Rattle.names.specs.Names.{reserved};
 ghost use Rattle.iri.specs.Relationships.{relationshipsOf, relationshipsPart, sourcePart};
-ghost use Rattle.iri.specs.Answers.{ofWritten, written};
-ghost use Rattle.iri.specs.Scratch.{Sent};
+ghost use Rattle.output.specs.Answers.{ofWritten, written};
+ghost use Rattle.output.specs.Sends.{Sent};
 
 fn put_relationships(s: &[u8], out: &mut [u8]) -> usize
     requires { ⌜ length (now s) ≤ 4096 ⌝ }
@@ -55,7 +55,7 @@ fn source_at(s: &[u8], out: &mut [u8]) -> Written
     if source_refusal(&source[..k]) != 0 {
         return Written::Refused(4);
     }
-    put_text(&source, k, out)
+    put_text(&source[..k], out)
 }
 
 // The source whose Relationships part has that name, in either case.

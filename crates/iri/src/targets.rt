@@ -2,16 +2,16 @@
 use crate::references::relative_path;
 use crate::split::split;
 use crate::texts::is_root;
-use crate::writing::Written;
-use crate::writing::put_text;
 use names::iris::is_iri;
 use names::parts::is_part_name;
 use names::parts::is_reserved;
+use output::writing::Written;
+use output::writing::put_text;
 ghost use mathlib.Core.Path.{_≡_};
 ghost use Prim.Native.Nat.{_≤_};
 ghost use lib.ListN.{length};
 ghost use Rattle.iri.specs.Targets.{sourceRefusal, internal, targetRefusalFrom, resolveTarget};
-ghost use Rattle.iri.specs.Answers.{ofWritten, written};
+ghost use Rattle.output.specs.Answers.{ofWritten, written};
 ghost use Rattle.iri.specs.Scratch.{NamedAs};
 
 // The length of a part name that stands in scratch, or a refusal.
@@ -78,7 +78,7 @@ pub fn resolve_target(source: &[u8], target: &[u8], out: &mut [u8]) -> Written
     let mut scratch = [0; 512];
     let n = resolve_name(source, target, &mut scratch);
     match n {
-        Name::Length(m) => put_text(&scratch, m, out),
+        Name::Length(m) => put_text(&scratch[..m], out),
         Name::Refused(j) => Written::Refused(j),
     }
 }

@@ -13,9 +13,9 @@ use borrow.Author.Tests.{ne-eqb, leb-true}
 use Rattle.chars.specs.Bytes.{slash, within}
 use Rattle.chars.specs.Lists.{split, all}
 use Rattle.chars.proofs.Bools.{and-left}
-use Rattle.chars.proofs.Searches.{take-rest}
+use Rattle.base.proofs.Lists.{take-rest}
 use Rattle.names.specs.Names.{segment, partName}
-use Rattle.iri.proofs.Sending.{refusing-is}
+use Rattle.output.proofs.Answering.{refusing-is}
 use Rattle.model.specs.Sets.{Bytes, insert, remove, held, lookup}
 use Rattle.model.specs.Places.{place, spot}
 use Rattle.model.specs.Fields.{first, prefixOf, suffixOf, itemField}

@@ -7,7 +7,8 @@ use native.Mathlib.Omega.{arith}
 use lib.ListN.{length}
 use Rattle.model.specs.Sets.{Bytes}
 use Rattle.model.specs.Calls.{Looks, View}
-use Rattle.store.specs.Buffer.{part, num4}
+use Rattle.base.specs.Buffer.{part}
+use Rattle.store.specs.Buffer.{num4}
 use Rattle.store.specs.Layout.{slotOf}
 use Rattle.store.proofs.Reading.{read-2}
 use Rattle.contract.specs.Answers.{ofView}

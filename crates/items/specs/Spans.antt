@@ -5,7 +5,7 @@ use mathlib.Core.Path.{_≡_}
 use mathlib.Core.List.{List}
 use lib.ListN.{length}
 use Rattle.model.specs.Calls.{Looks, View}
-use Rattle.store.specs.Buffer.{part}
+use Rattle.base.specs.Buffer.{part}
 use Rattle.store.specs.Layout.{countOf}
 use Rattle.store.specs.Rows.{rowAt, fieldOf}
 use Rattle.store.specs.Packages.{Sound}

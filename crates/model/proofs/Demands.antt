@@ -9,7 +9,7 @@ use native.Mathlib.Omega.{arith}
 use lib.Dec.{eqb}
 use lib.ListN.{length}
 use borrow.Author.Tests.{le-ltb}
-use Rattle.iri.specs.Answers.{Answer, answer}
+use Rattle.output.specs.Answers.{Answer, answer}
 use Rattle.model.specs.Sets.{Bytes, sameKey, held, any, those, sumOf, lookup}
 use Rattle.model.specs.Fields.{when, first, suffixOf, last, itemField}
 use Rattle.model.specs.Package.{Item, State, itemKey, keyOfItem, charge, group, itemAt, sameLast}

@@ -18,11 +18,11 @@ use Rattle.names.specs.declared.items.Suffix.{Suffix}
 use Rattle.names.specs.declared.items.Suffix.the-variants.{Whole, Piece}
 use Rattle.names.specs.declared.items.ItemName.{ItemName}
 use Rattle.names.specs.declared.items.ItemName.the-variants.{Named, Refused}
-use Rattle.iri.specs.Answers.{Answer}
+use Rattle.output.specs.Answers.{Answer, Text, filled}
 use Rattle.model.specs.Sets.{Bytes, Key, before, sameKey, any, those, joined, lookup, insert, Each}
 use Rattle.model.specs.Fields.{first, prefixOf, suffixOf, itemField, overrideFields}
 use Rattle.model.specs.Package.{Item, State, itemKey, nameKey, keyOfItem, keyOfDefault, keyOfOverride, rank, group, isPart, content, disagrees, extensionOf, mediaTypeOf}
-use Rattle.model.specs.Calls.{PutItem, PutDefault, PutOverride, ReadPart, MediaType, Text, filled, printed, clash, putItemRefusal, putDefaultRefusal, putOverrideRefusal, changeMade, change}
+use Rattle.model.specs.Calls.{PutItem, PutDefault, PutOverride, ReadPart, MediaType, printed, clash, putItemRefusal, putDefaultRefusal, putOverrideRefusal, changeMade, change}
 use Rattle.model.specs.Demand.{OverridesAnswer, DefaultsAnswer, WholeItemsAreParts}
 use Rattle.model.proofs.Bools.{not-passing}
 use Rattle.model.proofs.Lists.{append-nil, each-both, any-those-none, those-none}

@@ -5,7 +5,7 @@ use mathlib.Core.Path.{_≡_, ap, _∙_}
 use mathlib.Core.Bool.{not}
 use mathlib.Core.Option.{Option, some}
 use native.Mathlib.Omega.{arith}
-use Rattle.iri.specs.Answers.{Answer}
+use Rattle.output.specs.Answers.{Answer}
 use Rattle.model.specs.Sets.{Bytes, held, insert}
 use Rattle.model.specs.Fields.{when, suffixOf, last, defaultFields, overrideFields, relationshipFields}
 use Rattle.model.specs.Package.{Item, Default, Override, Relationship, State, itemKey, nameKey, relationshipKey, keyOfItem, keyOfDefault, keyOfOverride, keyOfRelationship, itemAt, sameLast}

@@ -2,13 +2,13 @@
 use crate::copying::copy_rest;
 use crate::runs::find_group;
 use crate::runs::makes_part;
-use iri::writing::Written;
 use names::parts::is_part_name;
+use output::writing::Written;
 use store::header::is_package;
 use store::rows::field;
 ghost use mathlib.Core.Path.{_≡_};
 ghost use Prim.Native.Nat.{_-_, _≤_};
-ghost use Rattle.iri.specs.Answers.{ofWritten};
+ghost use Rattle.output.specs.Answers.{ofWritten};
 ghost use Rattle.model.specs.Calls.{Call, Print};
 ghost use Rattle.store.specs.Layout.{slotCount};
 ghost use Rattle.contract.specs.Ran.{Ran};

@@ -9,7 +9,8 @@ use native.Mathlib.Nat.{zero-add}
 use lib.Dec.{leb, eqb}
 use lib.ListN.{length, getD}
 use borrow.Author.Tests.{leb-true, le-leb, lt-leb, eq-eqb, eqb-true, not-false}
-use Rattle.store.specs.Buffer.{part, num4}
+use Rattle.base.specs.Buffer.{part}
+use Rattle.store.specs.Buffer.{num4}
 use Rattle.store.specs.Layout.{heapStart, slotCount, maxCapacity, mark, formatOf, capOf, countOf, usedOf, endOf}
 use Rattle.store.specs.Packages.{Sound, Shape, isMarked, isPackage}
 use Rattle.store.proofs.Numbers.{num4-part}

@@ -2,7 +2,6 @@
 pub mod bytes;
 pub mod header;
 pub mod heap;
-pub mod moves;
 pub mod order;
 pub mod rows;
 pub mod runs;

@@ -1,8 +1,8 @@
 // A stream with the lines of a run of rows.
 use crate::markup::put_relationship;
 use crate::markup::put_type;
-use iri::writing::Written;
-use iri::writing::emit;
+use output::writing::Written;
+use output::writing::emit;
 use store::header::used;
 use store::rows::field;
 use store::rows::tag;
@@ -10,7 +10,7 @@ use store::slots::size;
 ghost use mathlib.Core.Path.{_≡_};
 ghost use Prim.Native.Nat.{_^_, _≤_};
 ghost use lib.ListN.{length};
-ghost use Rattle.iri.specs.Answers.{ofWritten};
+ghost use Rattle.output.specs.Answers.{ofWritten};
 ghost use Rattle.store.specs.Layout.{slotCount, heapStart, countOf};
 ghost use Rattle.store.specs.Packages.{Shape};
 ghost use Rattle.streams.specs.Streams.{runSize, Lined, Listed, Streamed, Answered};

@@ -9,7 +9,7 @@ use lib.ListN.{length}
 use borrow.Author.Tests.{not-true, not-false}
 use Rattle.names.specs.Names.{partName}
 use Rattle.names.specs.Types.{extension, mediaType}
-use Rattle.iri.specs.Answers.{Answer}
+use Rattle.output.specs.Answers.{Answer}
 use Rattle.model.specs.Sets.{Bytes, Key, held, lookup, insert, remove}
 use Rattle.model.specs.Fields.{when, first, typeField, defaultFields, overrideFields}
 use Rattle.model.specs.Package.{State, Default, Override, defaultLimit, overrideLimit, nameKey, keyOfDefault, keyOfOverride}

@@ -38,8 +38,9 @@ add-read c =
     let at-start = at-if1 .before .before .before .before .before .before .before in
     let at-turn = at-start in
     let in-loop = at-turn .before .before .before .before in
+    let at-args = in-loop .before .before .before .before .before in
     omega (arith, going-on _ _ _ _ _ _ _ _ (in-loop .before .loop .inv .0) _ _ _ _ (at-turn .take-turn .ensures) (at-if1 .if1 .left) .0,
-    in-loop .loop-test .taken)
+    in-loop .loop-test .taken, at-args .good .1 .0 .1)
 
 add-made : tie.Need-add-made Inv-loop μ-loop
 add-made c =

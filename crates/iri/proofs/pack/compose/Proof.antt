@@ -1,6 +1,7 @@
 use Rattle.iri.specs.Pack.{compose, packIri}
-use Rattle.iri.proofs.Sending.{answer-refused, fitted-short, fitted-bytes}
+use Rattle.output.proofs.Answering.{answer-refused, fitted-short, fitted-bytes}
 use Rattle.iri.proofs.Composing.{compose-9, compose-4, package-short, part-few, compose-text}
+use mathlib.Core.List.{[]}
 use native.Mathlib.Omega.{arith}
 use borrow.Author.Needs.{needs}
 use Rattle.iri.proofs.pack.compose.Statement.{statement}
@@ -42,7 +43,7 @@ returns-3 c =
     let at-if1 = at-is-part-or-root .before in
     let at-is-package-iri = at-if1 .before in
     let args = at-is-package-iri .before .before .before .before .args in
-    fitted-short (compose (args .p .now) (args .n .now)) (packIri (args .p .now) (args .n .now)) (args .out .now) _ _
+    fitted-short 1 (compose (args .p .now) (args .n .now)) (packIri (args .p .now) (args .n .now)) [] (args .out .now) _ _
     (compose-text (args .p .now) (args .n .now) _ (at-is-package-iri .is-package-iri .ensures) (at-if1 .if1 .left) _
     (at-is-part-or-root .is-part-or-root .ensures) (at-if2 .if2 .left)) (at-put-pack-iri .put-pack-iri .ensures)
     (at-put-pack-iri .put-pack-iri .kept .1 .1 .0) (c .if3 .taken)
@@ -55,7 +56,7 @@ returns-4 c =
     let at-if1 = at-is-part-or-root .before in
     let at-is-package-iri = at-if1 .before in
     let args = at-is-package-iri .before .before .before .before .args in
-    fitted-bytes (compose (args .p .now) (args .n .now)) (packIri (args .p .now) (args .n .now)) (args .out .now) _ _
+    fitted-bytes 1 (compose (args .p .now) (args .n .now)) (packIri (args .p .now) (args .n .now)) [] (args .out .now) _ _
     (compose-text (args .p .now) (args .n .now) _ (at-is-package-iri .is-package-iri .ensures) (at-if1 .if1 .left) _
     (at-is-part-or-root .is-part-or-root .ensures) (at-if2 .if2 .left)) (at-put-pack-iri .put-pack-iri .ensures)
     (at-put-pack-iri .put-pack-iri .kept .1 .1 .0) (c .if3 .left)

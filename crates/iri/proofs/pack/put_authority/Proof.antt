@@ -1,5 +1,5 @@
 use borrow.Author.Needs.{needs}
-use Rattle.iri.proofs.Sending.{sent-more}
+use Rattle.output.proofs.Sending.{sent-more}
 use Rattle.iri.proofs.pack.put_authority.Statement.{statement}
 use Rattle.iri.proofs.pack.put_authority.Tie as tie
 

@@ -5,11 +5,11 @@ use lib.ListN.{take, length, getD}
 use lib.Seq.{take-all}
 use borrow.Author.Needs.{needs}
 use denote.Ref.{now}
-use Rattle.chars.proofs.Searches.{take-rest}
+use Rattle.base.proofs.Lists.{take-rest}
 use Rattle.iri.specs.Pack.{escaped}
-use Rattle.iri.specs.Scratch.{Sent}
+use Rattle.output.specs.Sends.{Sent}
 use Rattle.iri.proofs.Escapes.{escape-few, escaped-more}
-use Rattle.iri.proofs.Sending.{sent-none, sent-more}
+use Rattle.output.proofs.Sending.{sent-none, sent-more}
 use Rattle.iri.proofs.pack.put_escaped.Statement.{statement}
 use Rattle.iri.proofs.pack.put_escaped.Tie as tie
 

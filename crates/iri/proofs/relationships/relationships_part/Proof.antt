@@ -3,7 +3,7 @@ use native.Mathlib.Omega.{arith}
 use borrow.Author.Needs.{needs}
 use Rattle.iri.specs.Relationships.{relationshipsPart, relationshipsOf}
 use Rattle.iri.proofs.Judging.{source-few}
-use Rattle.iri.proofs.Sending.{answer-refused, dry-short, dry-bytes}
+use Rattle.output.proofs.Answering.{answer-refused, dry-short, dry-bytes}
 use Rattle.iri.proofs.Sources.{rels-no, rels-text}
 use Rattle.iri.proofs.relationships.relationships_part.Statement.{statement}
 use Rattle.iri.proofs.relationships.relationships_part.Tie as tie

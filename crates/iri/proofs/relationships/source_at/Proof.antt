@@ -4,10 +4,10 @@ use native.Mathlib.Omega.{arith}
 use lib.ListN.{length}
 use lib.Seq.{length-take-le}
 use borrow.Author.Needs.{needs}
-use Rattle.iri.specs.Answers.{Outcome, written}
+use Rattle.output.specs.Answers.{Outcome, written}
 use Rattle.iri.specs.Relationships.{sourcePart}
 use Rattle.iri.proofs.Lists.{length-take-le-length, length-part-le}
-use Rattle.iri.proofs.Sending.{answer-refused}
+use Rattle.output.proofs.Answering.{answer-refused}
 use Rattle.iri.proofs.Sources.{last-slash, last-five, segment-le, source-length, back-refused, back-text}
 use Rattle.iri.proofs.relationships.source_at.Statement.{statement}
 use Rattle.iri.proofs.relationships.source_at.Tie as tie
@@ -101,17 +101,25 @@ returns c =
     (at-args .pre .1) _ _ _ _ _ (at-emit .emit .ensures) (at-emit .emit .kept .0) (at-emit2 .emit2 .ensures) (at-emit2 .emit2 .kept .0) refl
     _ (at-source-refusal .source-refusal .ensures) (c .if1 .taken))
 
-put-text-requires : tie.Need-put-text-requires
-put-text-requires c κs =
-    let at-emit2 = c .before .before .before .before .before .before in
+array-share-prefix-source-2 : tie.Need-array-share-prefix-source-2
+array-share-prefix-source-2 c =
+    let at-emit2 = c .before .before .before .before in
     let at-emit = at-emit2 .before .before .before .before in
     let at-find-past2 = at-emit .before .before .before in
     let at-find-past = at-find-past2 .before .before in
     let at-args = at-find-past .before .before .before in
-    let l = source-length (at-args .args .s .now) (at-args .pre .0) _ (at-find-past .find-past .ensures) _
-    (at-find-past2 .find-past2 .ensures) (at-args .pre .1) _ _ _ _ _ (at-emit .emit .ensures) (at-emit .emit .kept .0)
-    (at-emit2 .emit2 .ensures) (at-emit2 .emit2 .kept .0) refl in
-    (l, omega (arith, at-emit2 .emit2 .kept .0, at-emit .emit .kept .0))
+    source-length (at-args .args .s .now) (at-args .pre .0) _ (at-find-past .find-past .ensures) _ (at-find-past2 .find-past2 .ensures)
+    (at-args .pre .1) _ _ _ _ _ (at-emit .emit .ensures) (at-emit .emit .kept .0) (at-emit2 .emit2 .ensures) (at-emit2 .emit2 .kept .0) refl
+
+slice-aggregate-put-text : tie.Need-slice-aggregate-put-text
+slice-aggregate-put-text c =
+    let at-emit2 = c .before .before .before .before .before in
+    let at-emit = at-emit2 .before .before .before .before in
+    let at-find-past2 = at-emit .before .before .before in
+    let at-find-past = at-find-past2 .before .before in
+    let at-args = at-find-past .before .before .before in
+    sym (length-take-le _ _ (source-length (at-args .args .s .now) (at-args .pre .0) _ (at-find-past .find-past .ensures) _ (at-find-past2 .find-past2 .ensures)
+    (at-args .pre .1) _ _ _ _ _ (at-emit .emit .ensures) (at-emit .emit .kept .0) (at-emit2 .emit2 .ensures) (at-emit2 .emit2 .kept .0) refl))
 
 returns-2 : tie.Need-returns-2
 returns-2 c =
@@ -134,4 +142,5 @@ source-at-spec =
     (tie.spec
     (λ c κs. search needs) sub-g slice-aggregate-find-past (λ c κs. search needs) sub-e (λ c. search needs) slice-aggregate-emit-2
     emit-requires (λ c. search needs) sub-emit part-emit-start (λ c. search needs) emit-requires-2 array-share-prefix-source
-    slice-aggregate-source-refusal (λ c κs. search needs) returns (λ c. search needs) put-text-requires (λ c. search needs) returns-2)
+    slice-aggregate-source-refusal (λ c κs. search needs) returns array-share-prefix-source-2 slice-aggregate-put-text (λ c κs. search needs)
+    (λ c. search needs) returns-2)

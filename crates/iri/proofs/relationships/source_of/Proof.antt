@@ -3,7 +3,7 @@ use native.Mathlib.Omega.{arith}
 use borrow.Author.Needs.{needs}
 use borrow.Author.Tests.{not-false}
 use Rattle.iri.specs.Relationships.{sourcePart}
-use Rattle.iri.proofs.Sending.{answer-refused}
+use Rattle.output.proofs.Answering.{answer-refused}
 use Rattle.iri.proofs.Sources.{back-long, back-no}
 use Rattle.iri.proofs.relationships.source_of.Statement.{statement}
 use Rattle.iri.proofs.relationships.source_of.Tie as tie

@@ -3,7 +3,7 @@ use native.Mathlib.Omega.{arith}
 use mathlib.Core.Path.{_≡_, ap}
 use Prim.Native.Nat.{ℕ, _+_, _-_}
 use lib.ListN.{take, drop, length-take, length-drop}
-use Rattle.store.specs.Buffer.{part}
+use Rattle.base.specs.Buffer.{part}
 use Rattle.store.proofs.bytes.cut.Statement.{statement}
 use Rattle.store.proofs.bytes.cut.Tie as tie
 

@@ -1,0 +1,5 @@
+pub mod Lists
+pub mod Parts
+pub mod Copies
+pub mod Writes
+pub mod Blocks
