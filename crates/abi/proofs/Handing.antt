@@ -9,7 +9,7 @@ use native.Mathlib.Omega.{arith}
 use lib.Dec.{leb}
 use lib.ListN.{length}
 use Rattle.output.specs.Answers.{Outcome, Text, Refused, Answer, answer, unanswered, refusing, filled, written}
-use Rattle.iri.specs.Pack.{Location, Found, Not, located, locatedWhere}
+use Rattle.pack.specs.Pack.{Location, Found, Not, located, locatedWhere}
 use Rattle.output.proofs.Answering.{refusing-answered, filled-number}
 use Rattle.model.specs.Calls.{Call}
 use Rattle.contract.specs.Ran.{Ran}

@@ -2,15 +2,15 @@
 use contract::answers::Did;
 use contract::answers::Found;
 use contract::answers::Totalled;
-use iri::pack::Resolved;
 use items::places::Span;
 use output::writing::Written;
+use pack::pack::Resolved;
 use relationships::resolving::Resolution;
 ghost use mathlib.Core.Path.{_≡_};
 ghost use mathlib.Core.List.{List, [], _∷_};
 ghost use Prim.Native.Nat.{ℕ};
 ghost use Rattle.output.specs.Answers.{answer, unanswered, ofWritten};
-ghost use Rattle.iri.specs.Pack.{ofResolved};
+ghost use Rattle.pack.specs.Pack.{ofResolved};
 ghost use Rattle.model.specs.Calls.{flag as flagOf};
 ghost use Rattle.contract.specs.Answers.{ofDid, ofFound, ofTotalled};
 ghost use Rattle.relationships.specs.Resolutions.{ofResolution};

@@ -3,3 +3,4 @@ pub mod Parts
 pub mod Copies
 pub mod Writes
 pub mod Blocks
+pub mod Cases

@@ -2,4 +2,5 @@
 pub mod folding;
 pub mod search;
 pub mod starts;
+pub mod texts;
 pub mod units;

@@ -16,8 +16,8 @@ use Rattle.chars.proofs.Bools.{and-left}
 use Rattle.chars.proofs.Equivalence.{same-eq}
 use Rattle.names.specs.Names.{segment, partName, reserved}
 use Rattle.names.specs.Types.{extension}
-use Rattle.iri.specs.Targets.{sourceRefusal}
-use Rattle.iri.proofs.Judging.{name-few}
+use Rattle.targets.specs.Targets.{sourceRefusal}
+use Rattle.names.proofs.Lengths.{name-few}
 
 pub extension-some : (s : List ℕ) → extension s ≡ true → 0 < length s
 unfolding extension

@@ -13,13 +13,12 @@ use Rattle.chars.specs.Bytes.{slash, ascii}
 use Rattle.chars.specs.Lists.{begins, same, firstOf, afterLast}
 use Rattle.chars.proofs.Equivalence.{same-eq}
 use Rattle.chars.proofs.Searches.{index-le, last-le}
-use Rattle.base.proofs.Lists.{take-rest}
+use Rattle.base.proofs.Lists.{take-rest, length-take-le-length}
 use Rattle.iri.specs.References.{Rule, rule, rulePick, Skip, Root, Up, UpRoot, Finish, Copy, turn, firstSegment, turns, buffers, removeDotSegments}
 use Rattle.iri.specs.Scratch.{ofMove, Removed}
 use Rattle.output.specs.Sends.{Sent}
 use Rattle.iri.specs.declared.dots.Move.{Move}
 use Rattle.output.proofs.Sending.{sent-front}
-use Rattle.iri.proofs.Lists.{length-take-le-length}
 use Rattle.iri.specs.declared.dots.Move.the-variants as move
 
 picked : (P : Rule → Type 0) (q : Bool) (r s : Rule) → (q ≡ true → P r) → P s → P (rulePick q r s)

@@ -15,7 +15,7 @@ use Rattle.chars.proofs.Searches.{last-le}
 use Rattle.iri.specs.References.{merge, mergedPath, relativePath, removeDotSegments}
 use Rattle.output.specs.Sends.{Sent}
 use Rattle.iri.specs.Scratch.{Removed, Reached}
-use Rattle.iri.proofs.Lists.{length-take-le-length}
+use Rattle.base.proofs.Lists.{length-take-le-length}
 use Rattle.output.proofs.Sending.{sent-as, sent-more, sent-text}
 
 pub last-length : (b : ℕ) (s : List ℕ) (q : ℕ) → q ≡ afterLast b s → q ≡ length (take q s)

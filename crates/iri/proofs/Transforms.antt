@@ -13,13 +13,12 @@ use Rattle.chars.specs.Lists.{none}
 use Rattle.names.specs.Iris.{packageIri, iri}
 use Rattle.output.specs.Answers.{Refused, Text}
 use Rattle.iri.specs.Components.{schemeOf, authorityOf, pathOf, defined, queryOf, fragmentOf, recompose}
-use Rattle.iri.specs.References.{target, transform, removeDotSegments, relativePath, resolve}
+use Rattle.iri.specs.References.{target, transform, removeDotSegments, relativePath, resolve, resolveReference}
 use Rattle.iri.specs.Scratch.{Taken, Removed, Went, Reached}
 use Rattle.output.specs.Sends.{Sent}
-use Rattle.iri.specs.Targets.{resolveReference}
 use Rattle.iri.specs.declared.split.Parts.{Parts}
-use Rattle.iri.proofs.Judging.{package-few, iri-few}
-use Rattle.iri.proofs.Lists.{length-take-le-length, length-part-le}
+use Rattle.names.proofs.Lengths.{package-few, iri-few}
+use Rattle.base.proofs.Lists.{length-take-le-length, length-part-le}
 use Rattle.output.proofs.Sending.{sent-text}
 use Rattle.iri.proofs.Splitting.{scheme-length, authority-length, path-length, query-length}
 

@@ -14,7 +14,7 @@ use Rattle.chars.specs.Lists.{indexOf}
 use Rattle.chars.proofs.Bools.{and-left, and-right}
 use Rattle.names.specs.Names.{partName, extensionAt}
 use Rattle.names.specs.Types.{mediaType, extension, token}
-use Rattle.iri.proofs.Judging.{name-few}
+use Rattle.names.proofs.Lengths.{name-few}
 use Rattle.model.specs.Sets.{Bytes, lookup}
 use Rattle.model.specs.Fields.{when, first, prefixOf, defaultFields, overrideFields}
 use Rattle.model.specs.Package.{Item, Default, Override, State, nameKey, keyOfDefault, keyOfOverride, extensionOf, defaultFor, typeOf, typeOfDefault, mediaTypeOf}

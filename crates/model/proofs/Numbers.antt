@@ -16,7 +16,7 @@ use Rattle.names.specs.Iris.{iri, packageIri}
 use Rattle.names.specs.declared.items.Suffix.{Suffix}
 use Rattle.names.specs.declared.items.Suffix.the-variants.{Whole, Piece}
 use Rattle.names.specs.declared.items.ItemName.{ItemName}
-use Rattle.iri.specs.Targets.{internal, resolvePath, sourceRefusal, internalRefusal, targetRefusal}
+use Rattle.targets.specs.Targets.{internal, resolvePath, sourceRefusal, internalRefusal, targetRefusal}
 use Rattle.model.specs.Sets.{Bytes, held, any, lookup}
 use Rattle.model.specs.Fields.{when, first, prefixOf, suffixOf, askedField, itemField, partField, sourceField, idField, packageField, targetField, defaultFields, overrideFields, relationshipFields}
 use Rattle.model.specs.Package.{Item, State, itemLimit, defaultLimit, overrideLimit, relationshipLimit, itemKey, nameKey, relationshipKey, keyOfItem, keyOfDefault, keyOfOverride, keyOfRelationship, group, disagrees, grows, itemAt}

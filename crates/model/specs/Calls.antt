@@ -9,8 +9,8 @@ use lib.Dec.{leb, ltb, eqb}
 use lib.ListN.{length, getD, take, drop}
 use Rattle.output.specs.Answers.{Outcome, Text, Refused, unless, Answer, answer, choose, filled}
 use Rattle.iri.specs.References.{resolve}
-use Rattle.iri.specs.Targets.{resolvePath}
-use Rattle.iri.specs.Pack.{unfragmented, packIri}
+use Rattle.targets.specs.Targets.{resolvePath}
+use Rattle.pack.specs.Pack.{unfragmented, packIri}
 use Rattle.model.specs.Sets.{Bytes, held, any, lookup, insert, remove}
 use Rattle.model.specs.Fields.{when, first, prefixOf, suffixOf, askedField, itemField, partField, extensionField, sourceField, idField, packageField, defaultFields, overrideFields, relationshipFields}
 use Rattle.model.specs.Package.{Item, Default, Override, Relationship, State, itemLimit, defaultLimit, overrideLimit, relationshipLimit, empty, itemKey, nameKey, relationshipKey, keyOfItem, keyOfDefault, keyOfOverride, keyOfRelationship, charge, group, isPart, content, spelling, parts, disagrees, grows, itemAt, mediaTypeOf}

@@ -7,7 +7,7 @@ use mathlib.Core.List.{List, [], _∷_, _++_, map}
 use lib.ListN.{length, replicate}
 use Rattle.chars.specs.Bytes.{ascii}
 use Rattle.output.specs.Answers.{Answer, answer}
-use Rattle.iri.specs.Targets.{resolvePath}
+use Rattle.targets.specs.Targets.{resolvePath}
 use Rattle.model.specs.Sets.{Bytes}
 use Rattle.model.specs.Package.{empty}
 use Rattle.model.specs.Calls.{Call, Start, Looks, Changes, Prints, Find, Totals, PutItem, DropItem, PutDefault, PutOverride, PutRelationship, ReadPart, MediaType, PartAt, ResolveRelationship, WriteTypes, WriteRelationships, done, refused, overhead, answers}

@@ -11,10 +11,10 @@ use Rattle.names.specs.Iris.{scheme, colonFirst, iri, packageIri}
 use Rattle.names.specs.Numbers.{value, numeral, digits}
 use Rattle.names.specs.Reading.{readNumber}
 use Rattle.iri.specs.Components.{schemeLength, authorityLength, afterScheme, afterAuthority, afterPath, schemeOf, authorityOf, pathOf, queryOf, fragmentOf, recompose}
-use Rattle.iri.specs.References.{firstSegment, rule, turn, turns, removeDotSegments, merge, relativePath, transform, resolve}
-use Rattle.iri.specs.Targets.{sourceRefusal, internal, resolvePath, internalRefusal, targetRefusal, resolveTarget, resolveReference}
-use Rattle.iri.specs.Pack.{unfragmented, escape, escaped, packIri, partOrRoot, compose, slashed, lowTriplet, decoded, packageOf, unfragmentedIri, packForm, resolvePack}
-use Rattle.iri.specs.Relationships.{relationshipsOf, relationshipsPart, sourceOf, sourcePart}
+use Rattle.iri.specs.References.{firstSegment, rule, turn, turns, removeDotSegments, merge, relativePath, transform, resolve, resolveReference}
+use Rattle.targets.specs.Targets.{sourceRefusal, internal, resolvePath, internalRefusal, targetRefusal, resolveTarget}
+use Rattle.pack.specs.Pack.{unfragmented, escape, escaped, packIri, partOrRoot, compose, slashed, lowTriplet, decoded, packageOf, unfragmentedIri, packForm, resolvePack}
+use Rattle.targets.specs.Relationships.{relationshipsOf, relationshipsPart, sourceOf, sourcePart}
 use Rattle.model.specs.Sets.{thenBy, keyOrder, any, those, sumOf, joined, lookup, insert, remove}
 use Rattle.model.specs.Places.{firstWhere}
 use Rattle.model.specs.Fields.{first, prefixOf, suffixOf, itemField, defaultFields, overrideFields, relationshipFields}

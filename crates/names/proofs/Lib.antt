@@ -5,3 +5,5 @@ pub mod Reserved
 pub mod IriParts
 pub mod NameBytes
 pub mod Spelling
+pub mod Lengths
+pub mod FoldedNames

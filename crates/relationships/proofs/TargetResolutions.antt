@@ -16,12 +16,12 @@ use Rattle.chars.proofs.Searches.{index-le}
 use Rattle.names.specs.Iris.{packageIri}
 use Rattle.output.specs.Answers.{Answer, answer, Text, Refused, filled}
 use Rattle.iri.specs.References.{resolve}
-use Rattle.iri.specs.Targets.{resolvePath}
-use Rattle.iri.specs.Pack.{unfragmented, packIri}
+use Rattle.targets.specs.Targets.{resolvePath}
+use Rattle.pack.specs.Pack.{unfragmented, packIri}
 use Rattle.output.specs.Sends.{Fitted}
 use Rattle.iri.specs.Scratch.{Reached}
-use Rattle.iri.proofs.Lists.{length-take-few}
-use Rattle.iri.proofs.Judging.{package-few}
+use Rattle.base.proofs.Lists.{length-take-few}
+use Rattle.names.proofs.Lengths.{package-few}
 use Rattle.output.proofs.Answering.{refusing-is, fitted-short, fitted-bytes, filled-kept}
 use Rattle.model.specs.Sets.{Bytes, lookup}
 use Rattle.model.specs.Fields.{when, first, sourceField, idField, packageField}

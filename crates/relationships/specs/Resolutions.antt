@@ -5,8 +5,8 @@ use mathlib.Core.Path.{_≡_}
 use mathlib.Core.List.{List, [], _∷_}
 use mathlib.Core.Option.{some}
 use Rattle.output.specs.Answers.{Answer, answer, refusing, Text, filled}
-use Rattle.iri.specs.Targets.{resolvePath}
-use Rattle.iri.specs.Pack.{packIri}
+use Rattle.targets.specs.Targets.{resolvePath}
+use Rattle.pack.specs.Pack.{packIri}
 use Rattle.model.specs.Package.{Relationship, State, group, isPart}
 use Rattle.model.specs.Calls.{Numbered, flag, resolved}
 use Rattle.model.specs.Good.{fieldsOfRelationship}

@@ -2,11 +2,11 @@
 use contract::answers::Did;
 use contract::entries::drop_row;
 use contract::entries::put_row;
-use iri::targets::source_refusal;
-use iri::targets::target_refusal;
 use names::iris::is_package_iri;
 use names::types::is_id;
 use store::header::is_package;
+use targets::targets::source_refusal;
+use targets::targets::target_refusal;
 ghost use mathlib.Core.Path.{_≡_};
 ghost use mathlib.Core.List.{[], _∷_};
 ghost use Rattle.model.specs.Fields.{first, sourceField, idField, relationshipFields};

@@ -11,7 +11,7 @@ use borrow.Author.Tests.{eq-eqb, ne-eqb}
 use Rattle.chars.specs.Bytes.{ascii}
 use Rattle.chars.specs.Folding.{fold}
 use Rattle.output.specs.Answers.{Answer, answer, ofWritten}
-use Rattle.iri.specs.Targets.{sourceRefusal}
+use Rattle.targets.specs.Targets.{sourceRefusal}
 use Rattle.output.specs.declared.writing.Written.the-variants.{Refused}
 use Rattle.output.proofs.Answering.{refusing-is}
 use Rattle.model.specs.Sets.{Bytes, joined}

@@ -2,9 +2,9 @@
 use crate::listing::write_stream;
 use contract::search::bound;
 use contract::search::set_start;
-use iri::targets::source_refusal;
 use output::writing::Written;
 use store::header::is_package;
+use targets::targets::source_refusal;
 ghost use Rattle.output.specs.Answers.{ofWritten};
 ghost use Rattle.model.specs.Calls.{Call, Print};
 ghost use Rattle.contract.specs.Ran.{Ran};

@@ -11,13 +11,13 @@ use Rattle.chars.specs.Bytes.{ascii}
 use Rattle.names.specs.Iris.{packageIri}
 use Rattle.output.specs.Answers.{Answer, answer, ofWritten}
 use Rattle.output.proofs.Answering.{filled-fits}
-use Rattle.iri.specs.Pack.{unfragmented, packIri, partOrRoot, compose, partOf, Found, resolvePack, ofResolved, located}
-use Rattle.iri.specs.Demand.{composing, resolving, bytesWritten}
+use Rattle.pack.specs.Pack.{unfragmented, packIri, partOrRoot, compose, partOf, Found, resolvePack, ofResolved, located}
+use Rattle.pack.specs.Demand.{composing, resolving, bytesWritten}
 use Rattle.output.specs.declared.writing.Written.{Written}
 use Rattle.output.specs.declared.writing.Written.the-variants.{Bytes, Short, Refused}
-use Rattle.iri.specs.declared.pack.Resolved.{Resolved}
-use Rattle.iri.specs.declared.pack.Resolved.the-variants as resolved
-use Rattle.iri.proofs.PackIris.{every-pack-iri}
+use Rattle.pack.specs.declared.pack.Resolved.{Resolved}
+use Rattle.pack.specs.declared.pack.Resolved.the-variants as resolved
+use Rattle.pack.proofs.PackIris.{every-pack-iri}
 use Rattle.model.specs.Opened.{everything}
 
 some : (base name : List ℕ) → 0 < length (packIri base name)

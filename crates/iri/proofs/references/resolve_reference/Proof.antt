@@ -1,5 +1,4 @@
-use Rattle.iri.specs.References.{resolve}
-use Rattle.iri.specs.Targets.{resolveReference}
+use Rattle.iri.specs.References.{resolve, resolveReference}
 use Rattle.output.proofs.Answering.{answer-refused, fitted-short, fitted-bytes}
 use Rattle.iri.proofs.Transforms.{reference-base, reference-no, reference-text, judged-few}
 use mathlib.Core.List.{[]}
