@@ -4,12 +4,13 @@ use Prim.Native.Nat.{ℕ}
 use mathlib.Core.Path.{_≡_, refl, ap, sym, _∙_, subst}
 use mathlib.Core.Bool.{Bool, true, false}
 use mathlib.Core.List.{List, _++_}
+use mathlib.Core.Logic.{⊎-elim}
 use native.Mathlib.Omega.{arith}
 use lib.Dec.{leb}
 use lib.ListN.{length}
-use Rattle.iri.specs.Answers.{Outcome, Text, No, Answer, answer, unanswered, refusing, written, writtenWhere}
-use Rattle.iri.specs.Pack.{Location, Found, Not, located, locatedWhere}
-use Rattle.iri.proofs.Sending.{refusing-answered}
+use Rattle.output.specs.Answers.{Outcome, Text, Refused, Answer, answer, unanswered, refusing, filled, written}
+use Rattle.pack.specs.Pack.{Location, Found, Not, located, locatedWhere}
+use Rattle.output.proofs.Answering.{refusing-answered, filled-number}
 use Rattle.model.specs.Calls.{Call}
 use Rattle.contract.specs.Ran.{Ran}
 use Rattle.contract.proofs.Rans.{answered as is-answer}
@@ -32,12 +33,9 @@ replied call p a q r out x h = record { answered = a; ran = x; handed = h (is-an
 
 -- a text's answer has a value
 written-answers : (o : Outcome) (out : List ℕ) → written o out ≡ unanswered → ⊥
-written-answers (No k) out e = omega (arith, ap (λ (a : Answer). length (a .values)) e)
-written-answers (Text t) out e = go (leb (length t) (length out)) e
-  where
-    go : (b : Bool) → writtenWhere b t out ≡ unanswered → ⊥
-    go true e = omega (arith, ap (λ (a : Answer). a .number) e)
-    go false e = omega (arith, ap (λ (a : Answer). a .number) e)
+unfolding filled
+written-answers (Refused k) out e = omega (arith, ap (λ (a : Answer). length (a .values)) e)
+written-answers (Text t values) out e = ⊎-elim (λ z. omega (arith, ap (λ (a : Answer). a .number) e)) (λ z. omega (arith, ap (λ (a : Answer). a .number) e)) (filled-number 1 out t values)
 
 pub written-handed : (o : Outcome) (out : List ℕ) (a : Answer) (r : Reply) (out' : List ℕ) → a ≡ written o out
     → ((a ≡ unanswered → ⊥) → HandsOver a 1 r out') → HandsOver (written o out) 1 r out'

@@ -4,7 +4,7 @@ use Prim.Native.Nat.{ℕ}
 use mathlib.Core.Path.{_≡_}
 use mathlib.Core.Bool.{Bool}
 use mathlib.Core.List.{List, [], _∷_}
-use Rattle.iri.specs.Answers.{answer}
+use Rattle.output.specs.Answers.{answer}
 use Rattle.names.specs.Items.{itemName, itemRefusal}
 use Rattle.names.specs.declared.items.Suffix.{Suffix}
 use Rattle.names.specs.declared.items.Suffix.the-variants.{Whole, Piece}

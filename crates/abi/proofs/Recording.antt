@@ -10,8 +10,9 @@ use lib.Dec.{leb}
 use lib.ListN.{length, take, drop, length-take, drop-of-length-le}
 use lib.Seq.{take-all, length-take-le, drop-at, drop-drop}
 use borrow.Author.Tests.{leb-true, leb-false}
-use Rattle.store.specs.Buffer.{splice, le4}
-use Rattle.store.proofs.Writes.{join}
+use Rattle.base.specs.Buffer.{splice}
+use Rattle.store.specs.Buffer.{le4}
+use Rattle.base.proofs.Writes.{join}
 use Rattle.script.specs.Numbers.{le8}
 use Rattle.script.proofs.EightBytes.{le8-write}
 use Rattle.abi.specs.declared.replies.Reply.{Reply}

@@ -8,8 +8,8 @@ use native.Mathlib.Omega.{arith}
 use native.Mathlib.Nat.{zero-add, add-zero}
 use lib.ListN.{length, take, drop, length-append, length-drop, take-append-drop, drop-of-length-le}
 use lib.Seq.{take-at, drop-at, drop-drop, length-take-le, take-append-add, drop-append-add}
-use Rattle.chars.proofs.Searches.{take-rest}
-use Rattle.iri.specs.Answers.{Answer}
+use Rattle.base.proofs.Lists.{take-rest}
+use Rattle.output.specs.Answers.{Answer}
 use Rattle.model.specs.Sets.{Bytes}
 use Rattle.contract.specs.Ran.{Ran}
 use Rattle.script.specs.Calls.{sizeOf, isCall, callIn}

@@ -5,11 +5,11 @@ use mathlib.Core.Path.{_≡_, ap, sym, _∙_, subst}
 use mathlib.Core.List.{List, [], _∷_, _++_}
 use native.Mathlib.Omega.{arith}
 use lib.ListN.{length, take, drop, getD}
-use Rattle.iri.specs.Answers.{Answer, answer}
+use Rattle.output.specs.Answers.{Answer, answer}
 use Rattle.model.specs.Sets.{Bytes}
 use Rattle.model.specs.Calls.{Print, View, Totals, Call, Looks, Prints}
-use Rattle.store.specs.Buffer.{part}
-use Rattle.store.proofs.Parts.{length-part}
+use Rattle.base.specs.Buffer.{part}
+use Rattle.base.proofs.Parts.{length-part}
 use Rattle.contract.specs.Answers.{ofView}
 use Rattle.items.specs.Spans.{Viewed}
 use Rattle.script.specs.Calls.{calls, coded}

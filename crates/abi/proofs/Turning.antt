@@ -7,10 +7,10 @@ use mathlib.Core.List.{List, _++_}
 use native.Mathlib.Omega.{arith}
 use lib.ListN.{length, take, drop, length-append, length-drop}
 use lib.Seq.{length-take-le}
-use Rattle.iri.specs.Answers.{Answer}
+use Rattle.output.specs.Answers.{Answer}
 use Rattle.model.specs.Sets.{Bytes}
 use Rattle.model.specs.Calls.{Call, refused}
-use Rattle.store.specs.Buffer.{splice}
+use Rattle.base.specs.Buffer.{splice}
 use Rattle.script.specs.Calls.{headSize, roomOf, sizeOf, between, coded, isCall, callIn}
 use Rattle.script.specs.declared.heads.Head.{Head}
 use Rattle.script.specs.Reading.{Called}

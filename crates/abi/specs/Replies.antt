@@ -5,7 +5,7 @@ use mathlib.Core.Path.{_≡_}
 use mathlib.Core.Bool.{Bool, true, false}
 use mathlib.Core.List.{List, [], _∷_}
 use lib.ListN.{length, getD}
-use Rattle.iri.specs.Answers.{Answer, answer}
+use Rattle.output.specs.Answers.{Answer, answer}
 use Rattle.model.specs.Calls.{Find, View, Totals, Call, Start, Looks, Changes, Prints, valueCount}
 use Rattle.contract.specs.Ran.{Ran}
 use Rattle.items.specs.Spans.{Viewed}

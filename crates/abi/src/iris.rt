@@ -2,16 +2,17 @@
 use crate::replies::Reply;
 use crate::replies::of_resolved;
 use crate::replies::of_written;
-use iri::pack::compose;
-use iri::pack::resolve_pack;
 use iri::references::resolve_reference;
-use iri::relationships::relationships_part;
-use iri::relationships::source_of;
-use iri::targets::resolve_target;
-ghost use Rattle.iri.specs.Answers.{written};
-ghost use Rattle.iri.specs.Targets.{resolveReference, resolveTarget};
-ghost use Rattle.iri.specs.Pack.{compose as composed, resolvePack, located};
-ghost use Rattle.iri.specs.Relationships.{relationshipsPart, sourcePart};
+use pack::pack::compose;
+use pack::pack::resolve_pack;
+use targets::relationships::relationships_part;
+use targets::relationships::source_of;
+use targets::targets::resolve_target;
+ghost use Rattle.output.specs.Answers.{written};
+ghost use Rattle.iri.specs.References.{resolveReference};
+ghost use Rattle.targets.specs.Targets.{resolveTarget};
+ghost use Rattle.pack.specs.Pack.{compose as composed, resolvePack, located};
+ghost use Rattle.targets.specs.Relationships.{relationshipsPart, sourcePart};
 ghost use Rattle.abi.specs.Replies.{HandsOver};
 
 // An external target, resolved against a package IRI.

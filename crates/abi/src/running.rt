@@ -11,7 +11,7 @@ ghost use mathlib.Core.Path.{_≡_};
 ghost use Prim.Native.Nat.{_≤_, _<_};
 ghost use lib.ListN.{length};
 ghost use Rattle.script.specs.Reading.{Called};
-ghost use Rattle.store.specs.Buffer.{splice};
+ghost use Rattle.base.specs.Buffer.{splice};
 ghost use Rattle.abi.specs.Scripts.{replySize, replyBytes, RunAs};
 ghost use Rattle.abi.specs.Turns.{Turned};
 

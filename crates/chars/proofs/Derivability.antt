@@ -13,7 +13,7 @@ use borrow.Author.Tests.{ltb-true, lt-ltb, le-ltb, leb-true, ne-eqb}
 use Rattle.chars.specs.Bytes.{slash}
 use Rattle.chars.specs.Lists.{same, begins}
 use Rattle.chars.specs.Folding.{lower, fold, equivalent, derivable}
-use Rattle.chars.proofs.Bools.{and-left, and-right, and-false, and-right-true}
+use Rattle.base.proofs.Bools.{and-left, and-right, and-false, and-right-true}
 use Rattle.chars.proofs.Equivalence.{same-eq, same-refl}
 
 -- a text that begins with t is t, then the rest

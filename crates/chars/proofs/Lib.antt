@@ -11,3 +11,9 @@ pub mod Orders
 pub mod Equivalence
 pub mod SameStarts
 pub mod Derivability
+pub mod SameTexts
+pub mod FirstBytes
+pub mod LastBytes
+pub mod UnitEnds
+pub mod Foldings
+pub mod FoldedTexts

@@ -8,15 +8,12 @@ use native.Mathlib.Nat.{zero-add}
 use native.Mathlib.Numerals.{add-one}
 use native.Mathlib.Omega.{arith}
 use lib.Dec.{eqb}
-use lib.ListN.{length, take, drop, getD, drop-of-length-le, length-drop}
-use lib.Seq.{drop-cons, drop-length, take-suc, take-all, length-take-le}
+use lib.ListN.{length, take, drop, getD, drop-of-length-le}
+use lib.Seq.{drop-cons, drop-length, take-suc, length-take-le}
 use borrow.Author.Tests.{eq-eqb, ne-eqb}
 use Rattle.chars.specs.Lists.{every, firstOf, indexOf, lacks, afterFirst, afterLast}
-use Rattle.chars.proofs.Bools.{and-left, and-right, and-true}
-
--- the part s[i..] of a slice
-pub take-rest : (s : List ℕ) (i : ℕ) → take (length s - i) (drop i s) ≡ drop i s
-take-rest s i = take-all (length s - i) (drop i s) (simp length-drop (omega arith))
+use Rattle.base.proofs.Lists.{take-rest}
+use Rattle.base.proofs.Bools.{and-left, and-right, and-true}
 
 pub drop-next : (s : List ℕ) (i : ℕ) → i < length s → drop i s ≡ getD s i 0 ∷ drop (i + 1) s
 drop-next s i h = rw (add-one) (drop-cons s i 0 h)

@@ -1,6 +1,6 @@
 // Folding, and what is compared by it.
-use crate::search::byte_at;
 use crate::starts::same_start;
+use base::bytes::byte_at;
 ghost use mathlib.Core.Path.{_≡_};
 ghost use mathlib.Core.List.{map};
 ghost use lib.Dec.{eqb};

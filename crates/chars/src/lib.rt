@@ -1,6 +1,6 @@
 // Bytes and characters: folding, searching.
 pub mod folding;
-pub mod numbers;
 pub mod search;
 pub mod starts;
+pub mod texts;
 pub mod units;

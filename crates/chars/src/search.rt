@@ -1,7 +1,7 @@
 // Searching a text for bytes.
 ghost use mathlib.Core.Path.{_≡_};
 ghost use Prim.Native.Nat.{_+_};
-ghost use lib.ListN.{getD, drop};
+ghost use lib.ListN.{drop};
 ghost use Rattle.chars.specs.Lists.{indexOf, afterLast, lacks};
 
 // The sets of bytes that texts are made of, or searched for.
@@ -12,13 +12,6 @@ pub enum Alphabet {
     SchemeEnd,
     AuthorityEnd,
     PathEnd,
-}
-
-// Past the end stands 0, which is in no class.
-pub fn byte_at(s: &[u8], i: usize) -> u8
-    ensures { λ r. ⌜ r ≡ getD (now (s .entry)) i 0 ⌝ }
-{
-    if i < s.len() { s[i] } else { 0 }
 }
 
 // The index of the first b from index `from` on, or the length.

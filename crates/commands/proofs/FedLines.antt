@@ -8,7 +8,7 @@ use lib.ListN.{length, take, drop, length-append, length-take, length-drop, drop
 use lib.Seq.{length-take-le}
 use Rattle.chars.specs.Lists.{firstOf}
 use Rattle.chars.proofs.Searches.{index-le}
-use Rattle.iri.proofs.Sending.{sent-none, sent-more, sent-text, sent-rest}
+use Rattle.output.proofs.Sending.{sent-none, sent-more, sent-text, sent-rest}
 use Rattle.model.specs.Sets.{Bytes}
 use Rattle.model.specs.Package.{State}
 use Rattle.model.specs.Texts.{lineFeed}

@@ -4,10 +4,10 @@ use Prim.Native.Nat.{ℕ, _-_}
 use mathlib.Core.Path.{_≡_, refl, ap, sym, _∙_, subst}
 use native.Mathlib.Omega.{arith}
 use lib.ListN.{length, take, drop}
-use Rattle.chars.proofs.Searches.{take-rest}
-use Rattle.iri.specs.Answers.{Answer, unanswered}
-use Rattle.iri.specs.Scratch.{Sent}
-use Rattle.iri.proofs.Sending.{refusing-answered}
+use Rattle.base.proofs.Lists.{take-rest}
+use Rattle.output.specs.Answers.{Answer, unanswered}
+use Rattle.output.specs.Sends.{Sent}
+use Rattle.output.proofs.Answering.{refusing-answered}
 use Rattle.model.specs.Sets.{Bytes}
 use Rattle.model.specs.Calls.{Change, Changes, refused}
 use Rattle.model.specs.Sheet.{Line, Does, Lists, Unreadable, lineRead, numberLine, shownBy}

@@ -9,8 +9,8 @@ use native.Mathlib.Omega.{arith}
 use lib.ListN.{length, take, drop, length-drop}
 use lib.Seq.{length-take-le}
 use borrow.Author.Tests.{not-true, not-false}
-use Rattle.iri.specs.Scratch.{Sent}
-use Rattle.iri.proofs.Sending.{sent-none, sent-as, sent-rest}
+use Rattle.output.specs.Sends.{Sent}
+use Rattle.output.proofs.Sending.{sent-none, sent-as, sent-rest}
 use Rattle.model.specs.Sets.{Bytes}
 use Rattle.model.specs.Package.{noItem, State, content, spelling, mediaTypeOf}
 use Rattle.model.specs.Sheet.{partLine}

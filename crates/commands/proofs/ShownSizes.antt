@@ -6,7 +6,7 @@ use mathlib.Core.List.{List, [], _∷_, flatMap}
 use mathlib.Core.Option.{Option, none, some}
 use native.Mathlib.Omega.{arith}
 use lib.ListN.{length, length-append}
-use Rattle.iri.proofs.Judging.{name-few}
+use Rattle.names.proofs.Lengths.{name-few}
 use Rattle.model.specs.Sets.{Bytes, Each}
 use Rattle.model.specs.Package.{Item, State, content, spelling, parts, mediaTypeOf}
 use Rattle.model.specs.Good.{Good}

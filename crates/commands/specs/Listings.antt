@@ -5,7 +5,7 @@ use mathlib.Core.Path.{_≡_}
 use mathlib.Core.Bool.{Bool, cond}
 use mathlib.Core.List.{[], _++_, flatMap}
 use lib.ListN.{length, drop}
-use Rattle.iri.specs.Scratch.{Sent}
+use Rattle.output.specs.Sends.{Sent}
 use Rattle.model.specs.Sets.{Bytes}
 use Rattle.model.specs.Package.{State, parts, mediaTypeOf}
 use Rattle.model.specs.Sheet.{partLine, listing}

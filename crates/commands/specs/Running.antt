@@ -3,7 +3,7 @@
 use Prim.Native.Nat.{ℕ, _≤_}
 use mathlib.Core.Path.{_≡_}
 use lib.ListN.{length}
-use Rattle.iri.specs.Scratch.{Sent}
+use Rattle.output.specs.Sends.{Sent}
 use Rattle.model.specs.Sets.{Bytes}
 use Rattle.model.specs.Package.{State}
 use Rattle.model.specs.Calls.{Change, change}

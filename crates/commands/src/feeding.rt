@@ -1,6 +1,6 @@
 // An input that comes in pieces: its lines are gathered, and run one after the other.
 use crate::running::run_line;
-use chars::numbers::smaller;
+use base::numbers::smaller;
 use lines::gathering::gather;
 ghost use Rattle.commands.specs.Feeding.{Steps, Feeds, Ends};
 

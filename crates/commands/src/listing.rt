@@ -1,5 +1,5 @@
 // The listing of the parts: one walk over the items, group by group.
-use chars::numbers::smaller;
+use base::numbers::smaller;
 use contract::search::item_count;
 use lines::printing::put_row;
 use parts::reading::content_length;

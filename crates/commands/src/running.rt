@@ -12,7 +12,7 @@ use types::calls::put_override;
 ghost use mathlib.Core.Path.{_≡_};
 ghost use Prim.Native.Nat.{_<_};
 ghost use lib.ListN.{length, drop};
-ghost use Rattle.iri.specs.Answers.{unanswered};
+ghost use Rattle.output.specs.Answers.{unanswered};
 ghost use Rattle.model.specs.Calls.{Change};
 ghost use Rattle.contract.specs.Answers.{ofDid};
 ghost use Rattle.lines.specs.Reading.{fieldTo, fieldAfter};

@@ -5,8 +5,8 @@ use mathlib.Core.Path.{_≡_, refl, ap, sym, _∙_, subst}
 use mathlib.Core.Bool.{Bool, true, false, not, true≢false}
 use mathlib.Core.List.{List, []}
 use native.Mathlib.Omega.{arith}
-use Rattle.iri.specs.Answers.{Answer, answer, refusing}
-use Rattle.iri.proofs.Sending.{refusing-is}
+use Rattle.output.specs.Answers.{Answer, answer, refusing}
+use Rattle.output.proofs.Answering.{refusing-is}
 use Rattle.model.specs.Fields.{when}
 use Rattle.model.specs.Package.{State}
 use Rattle.model.specs.Calls.{Find, View, Totals, Call, Start, Looks, Changes, Prints, lent}

@@ -8,11 +8,11 @@ use native.Mathlib.Omega.{arith}
 use lib.Dec.{ltb, eqb}
 use lib.ListN.{length}
 use borrow.Author.Tests.{eq-eqb, ne-eqb, eqb-true, eqb-false}
-use Rattle.iri.specs.Answers.{Answer, unanswered}
-use Rattle.iri.proofs.Sending.{refusing-is}
+use Rattle.output.specs.Answers.{Answer, unanswered}
+use Rattle.output.proofs.Answering.{refusing-is}
 use Rattle.model.specs.Fields.{when}
 use Rattle.model.specs.Package.{State, empty}
-use Rattle.model.specs.Calls.{Look, Find, View, Totals, Change, Print, Call, Start, Looks, Changes, Prints, done, refused, changed, Numbered, capacityLimit, overhead, startRefusal, look, change, changeRefusal, changeMade, printed, filled, valueCount}
+use Rattle.model.specs.Calls.{Look, Find, View, Totals, Change, Print, Call, Start, Looks, Changes, Prints, done, refused, changed, Numbered, capacityLimit, overhead, startRefusal, look, change, changeRefusal, changeMade, printed, valueCount}
 use Rattle.model.proofs.Numbers.{zero-numbered, change-numbered}
 use Rattle.model.proofs.Steps.{change-good}
 use Rattle.store.specs.Packages.{isPackage}

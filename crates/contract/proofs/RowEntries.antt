@@ -9,12 +9,12 @@ use native.Mathlib.Omega.{arith}
 use lib.Dec.{leb, ltb, eqb}
 use lib.ListN.{length, getD, take, drop}
 use borrow.Author.Tests.{lt-ltb, le-ltb, le-leb, lt-leb, leb-true, leb-false, ltb-true, ltb-false}
-use Rattle.iri.proofs.Sending.{refusing-is}
+use Rattle.output.proofs.Answering.{refusing-is}
 use Rattle.model.specs.Sets.{Bytes, Key, sameKey, held, lookup, insert, remove}
 use Rattle.model.specs.Places.{bound, place, spot}
 use Rattle.model.specs.Calls.{done, refused}
 use Rattle.model.proofs.Numbers.{numbered, zero-numbered}
-use Rattle.model.proofs.Bools.{not-passing}
+use Rattle.base.proofs.Bools.{not-passing}
 use Rattle.model.proofs.KeyOrders.{same-key-sym}
 use Rattle.model.proofs.Sets.{absent}
 use Rattle.model.proofs.Places.{insert-at, remove-at, lookup-at, lookup-none, bound-hit, bound-miss, bound-place}

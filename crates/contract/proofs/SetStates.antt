@@ -9,12 +9,12 @@ use native.Mathlib.Omega.{arith}
 use lib.Dec.{leb, ltb}
 use lib.ListN.{length}
 use borrow.Author.Tests.{leb-false}
-use Rattle.iri.specs.Answers.{Answer}
+use Rattle.output.specs.Answers.{Answer}
 use Rattle.model.specs.Sets.{Key, held, lookup, insert, remove, Each}
 use Rattle.model.specs.Fields.{when, first}
 use Rattle.model.specs.Package.{Relationship, State, defaultLimit, overrideLimit, relationshipLimit, keyOfDefault, keyOfOverride, keyOfRelationship, charge}
 use Rattle.model.specs.Calls.{Change, done, refused, changed, noRoom, change, changeRefusal, changeMade, withDefaults, withOverrides, withRelationships}
-use Rattle.model.proofs.Bools.{or-false-left}
+use Rattle.base.proofs.Bools.{or-false-left}
 use Rattle.store.specs.Layout.{countOf, usedOf, slotCount}
 use Rattle.store.specs.Rows.{Row, rowSize, rowsOf}
 use Rattle.contract.specs.Rows.{itemRow, defaultRow, overrideRow, relationshipRow, otherRows, rowsFor, setOf, rowKey}

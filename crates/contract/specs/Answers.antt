@@ -2,7 +2,7 @@
 -- Assumes nothing.
 use Prim.Native.Nat.{ℕ}
 use mathlib.Core.List.{List, [], _∷_}
-use Rattle.iri.specs.Answers.{Answer, answer, refusing}
+use Rattle.output.specs.Answers.{Answer, answer, refusing}
 use Rattle.model.specs.Calls.{done, refused}
 use Rattle.contract.specs.declared.answers.Did.{Did}
 use Rattle.contract.specs.declared.answers.Did.the-variants as did

@@ -5,7 +5,7 @@ use mathlib.Core.Path.{_≡_}
 use mathlib.Core.Bool.{Bool, true, false}
 use mathlib.Core.List.{List, [], _∷_}
 use lib.ListN.{length, replicate}
-use Rattle.iri.specs.Answers.{Answer, answer}
+use Rattle.output.specs.Answers.{Answer, answer}
 use Rattle.model.specs.Package.{State, empty}
 use Rattle.model.specs.Calls.{Find, View, Totals, Call, Start, Looks, Changes, Prints, done, refused, Numbered, startRefusal, step, valueCount, lent}
 use Rattle.store.specs.Packages.{isPackage}

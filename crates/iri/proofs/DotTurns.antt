@@ -3,20 +3,22 @@
 use Prim.Native.Nat.{_-_, ℕ, _≤_, _<_, zero, suc, _+_}
 use mathlib.Core.Path.{_≡_, refl, ap, _∙_, sym}
 use mathlib.Core.Bool.{Bool, true, false, _||_}
-use mathlib.Core.List.{List, [], _++_, append-nil, _∷_, append-assoc}
+use mathlib.Core.List.{List, [], _++_, append-nil, _∷_}
 use native.Mathlib.Nat.{not-suc-le-zero}
 use native.Mathlib.Numerals.{add-one}
 use native.Mathlib.Omega.{arith}
-use lib.ListN.{length, take, drop, length-drop, length-append, set}
-use lib.Seq.{length-take-le, drop-drop, take-take, take-at, take-suc-set}
+use lib.ListN.{length, take, drop, length-drop, set}
+use lib.Seq.{length-take-le, drop-drop, take-take, take-suc-set}
 use Rattle.chars.specs.Bytes.{slash, ascii}
 use Rattle.chars.specs.Lists.{begins, same, firstOf, afterLast}
 use Rattle.chars.proofs.Equivalence.{same-eq}
-use Rattle.chars.proofs.Searches.{index-le, take-rest, last-le}
+use Rattle.chars.proofs.Searches.{index-le, last-le}
+use Rattle.base.proofs.Lists.{take-rest, length-take-le-length}
 use Rattle.iri.specs.References.{Rule, rule, rulePick, Skip, Root, Up, UpRoot, Finish, Copy, turn, firstSegment, turns, buffers, removeDotSegments}
-use Rattle.iri.specs.Scratch.{ofMove, Sent, Removed}
+use Rattle.iri.specs.Scratch.{ofMove, Removed}
+use Rattle.output.specs.Sends.{Sent}
 use Rattle.iri.specs.declared.dots.Move.{Move}
-use Rattle.iri.proofs.Lists.{length-take-le-length}
+use Rattle.output.proofs.Sending.{sent-front}
 use Rattle.iri.specs.declared.dots.Move.the-variants as move
 
 picked : (P : Rule → Type 0) (q : Bool) (r s : Rule) → (q ≡ true → P r) → P s → P (rulePick q r s)
@@ -192,9 +194,7 @@ module _ (s out : List ℕ) (i o : ℕ) (h : i < length s) (m : Move) (em : ofMo
       let r : rule (drop i s) ≡ Copy n = rule-is ∙ ap ofMove e in
       let f : n ≤ length (drop i s) = rw r at (good (drop i s) [] some .0) in
       let l : length (take n (drop i s)) ≡ n = length-take-le n (drop i s) f in
-      let q : out' ≡ take o out ++ (take n (drop i s) ++ drop (o + length (take n (drop i s))) out) = w′ .fits (omega arith) in
-      let p : length (take o out ++ take n (drop i s)) ≡ k = length-append (take o out) (take n (drop i s)) ∙ ap (λ (x : ℕ). x + length (take n (drop i s))) (length-take-le o out (omega arith)) ∙ sym (w′ .next-is) in
-      let t : take k out' ≡ take o out ++ take n (drop i s) = ap (take k) (q ∙ sym (append-assoc (take o out) (take n (drop i s)) (drop (o + length (take n (drop i s))) out))) ∙ take-at (take o out ++ take n (drop i s)) _ k p in
+      let t : take k out' ≡ take o out ++ take n (drop i s) = sent-front out out' (take n (drop i s)) o k w′ (omega (arith, w′ .next-is)) in
       next (drop i s) (take o out) some (Copy n) r
       ∙ ap (λ (x : List ℕ). whole x (take o out ++ take n (drop i s))) (drop-drop n i s)
       ∙ ap (whole (drop (i + n) s)) (sym t)

@@ -13,9 +13,10 @@ use Rattle.chars.specs.Bytes.{slash}
 use Rattle.chars.specs.Lists.{afterLast}
 use Rattle.chars.proofs.Searches.{last-le}
 use Rattle.iri.specs.References.{merge, mergedPath, relativePath, removeDotSegments}
-use Rattle.iri.specs.Scratch.{Sent, Removed, Reached}
-use Rattle.iri.proofs.Lists.{length-take-le-length}
-use Rattle.iri.proofs.Sending.{sent-as, sent-more, sent-text}
+use Rattle.output.specs.Sends.{Sent}
+use Rattle.iri.specs.Scratch.{Removed, Reached}
+use Rattle.base.proofs.Lists.{length-take-le-length}
+use Rattle.output.proofs.Sending.{sent-as, sent-more, sent-text}
 
 pub last-length : (b : ℕ) (s : List ℕ) (q : ℕ) → q ≡ afterLast b s → q ≡ length (take q s)
 last-length b s q e = sym (length-take-le q s (omega (arith, last-le b s)))

@@ -12,8 +12,9 @@ use borrow.Author.Tests.{eq-eqb, ne-eqb, eqb-true, eqb-false}
 use Rattle.chars.specs.Bytes.{colon, slash, member, numberSign}
 use Rattle.chars.specs.Lists.{firstOf, indexOf, none}
 use Rattle.chars.specs.declared.search.Alphabet.the-variants.{AuthorityEnd, PathEnd}
-use Rattle.chars.proofs.Bools.{and-false}
-use Rattle.chars.proofs.Searches.{take-rest, first-le, index-le}
+use Rattle.base.proofs.Bools.{and-false}
+use Rattle.base.proofs.Lists.{take-rest}
+use Rattle.chars.proofs.Searches.{first-le, index-le}
 use Rattle.chars.proofs.UnitLengths.{passes-lt}
 use Rattle.names.specs.Iris.{schemeEnd, colonFirst}
 use Rattle.iri.specs.Components.{schemeLength, authorityLength, afterScheme, afterAuthority, pathLength, afterPath, schemeOf, authorityOf, pathOf, queryOf, fragmentOf, ComponentsReturn, recompose}

@@ -3,7 +3,7 @@
 use Prim.Native.Nat.{_-_, ℕ, _≤_, _+_}
 use mathlib.Core.Path.{ap, _≡_, sym, _∙_, refl}
 use mathlib.Core.Bool.{true, false, Bool, not}
-use mathlib.Core.List.{List, _++_, append-assoc}
+use mathlib.Core.List.{List, [], _++_, append-assoc}
 use native.Mathlib.Omega.{arith}
 use lib.Dec.{eqb}
 use lib.ListN.{take, drop, take-append-drop, length, length-append}
@@ -11,15 +11,15 @@ use lib.Seq.{take-add, drop-drop}
 use borrow.Author.Tests.{eq-eqb, ne-eqb, eqb-true, eqb-false, not-true, not-false}
 use Rattle.chars.specs.Lists.{none}
 use Rattle.names.specs.Iris.{packageIri, iri}
-use Rattle.iri.specs.Answers.{No, Text}
+use Rattle.output.specs.Answers.{Refused, Text}
 use Rattle.iri.specs.Components.{schemeOf, authorityOf, pathOf, defined, queryOf, fragmentOf, recompose}
-use Rattle.iri.specs.References.{target, transform, removeDotSegments, relativePath, resolve}
-use Rattle.iri.specs.Scratch.{Taken, Removed, Went, Sent, Reached}
-use Rattle.iri.specs.Targets.{resolveReference}
+use Rattle.iri.specs.References.{target, transform, removeDotSegments, relativePath, resolve, resolveReference}
+use Rattle.iri.specs.Scratch.{Taken, Removed, Went, Reached}
+use Rattle.output.specs.Sends.{Sent}
 use Rattle.iri.specs.declared.split.Parts.{Parts}
-use Rattle.iri.proofs.Judging.{package-few, iri-few}
-use Rattle.iri.proofs.Lists.{length-take-le-length, length-part-le}
-use Rattle.iri.proofs.Sending.{sent-text}
+use Rattle.names.proofs.Lengths.{package-few, iri-few}
+use Rattle.base.proofs.Lists.{length-take-le-length, length-part-le}
+use Rattle.output.proofs.Sending.{sent-text}
 use Rattle.iri.proofs.Splitting.{scheme-length, authority-length, path-length, query-length}
 
 -- parts of a list that meet
@@ -189,17 +189,17 @@ resolve-append base r path e = rw e (simp append-assoc)
 
 -- a reference, judged
 module _ (base r : List ℕ) (i : Bool) (ei : i ≡ packageIri base) where
-  pub reference-base : not i ≡ true → resolveReference base r ≡ No 9
+  pub reference-base : not i ≡ true → resolveReference base r ≡ Refused 9
   unfolding resolveReference
   reference-base q = rw (← ei, not-true i q)
 
   module _ (qi : not i ≡ false) (j : Bool) (ej : j ≡ iri r) where
-    pub reference-no : not j ≡ true → resolveReference base r ≡ No 9
+    pub reference-no : not j ≡ true → resolveReference base r ≡ Refused 9
     unfolding resolveReference
     reference-no q = rw (← ei, not-false i qi, ← ej, not-true j q)
 
     module _ (qj : not j ≡ false) where
-      pub reference-text : resolveReference base r ≡ Text (resolve base r)
+      pub reference-text : resolveReference base r ≡ Text (resolve base r) []
       unfolding resolveReference
       reference-text = rw (← ei, not-false i qi, ← ej, not-false j qj)
 

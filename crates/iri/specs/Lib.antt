@@ -1,9 +1,4 @@
 pub mod Components
 pub mod References
-pub mod Targets
-pub mod Pack
-pub mod Demand
-pub mod Relationships
-pub mod Answers
-pub mod Examples
 pub mod Scratch
+pub mod Examples

@@ -9,6 +9,8 @@ use Rattle.chars.specs.Bytes.{ascii, slash}
 use Rattle.chars.specs.Lists.{none, same, begins, indexOf, afterLast}
 use Rattle.names.specs.Names.{folder}
 use Rattle.iri.specs.Components.{Components, defined, components, recompose}
+use Rattle.output.specs.Answers.{Outcome, Text, provided}
+use Rattle.names.specs.Iris.{iri, packageIri}
 
 -- 5.2.4, remove_dot_segments: the input and the output buffer
 pub record Buffers : Type 0 where
@@ -98,3 +100,7 @@ target base r = transform (components base) (components r)
 
 unfoldable pub resolve : List ℕ → List ℕ → List ℕ
 resolve base r = recompose (target base r)
+
+-- an external target, "resolved against the package IRI": both by 9
+unfoldable pub resolveReference : List ℕ → List ℕ → Outcome
+resolveReference base reference = provided (packageIri base && iri reference) 9 (Text (resolve base reference) [])

@@ -1,22 +1,16 @@
 -- What the inner functions ensure: of a lent output and of scratch that a caller lends, and where they say that a component stands.
 -- Assumes nothing.
-use Prim.Native.Nat.{ℕ, _+_, _-_, _≤_, _<_}
+use Prim.Native.Nat.{ℕ, _+_, _-_, _≤_}
 use mathlib.Core.Path.{_≡_}
-use mathlib.Core.Bool.{Bool, true, false, _||_}
-use mathlib.Core.List.{List, _++_}
+use mathlib.Core.Bool.{Bool, _||_}
+use mathlib.Core.List.{List}
 use lib.ListN.{length, take, drop}
 use Rattle.chars.specs.Bytes.{ascii}
 use Rattle.chars.specs.Lists.{same}
 use Rattle.iri.specs.Components.{schemeOf, authorityOf, pathOf, queryOf, fragmentOf}
 use Rattle.iri.specs.References.{Rule, Skip, Root, Up, UpRoot, Finish, Copy, rulePick, firstSegment, removeDotSegments, relativePath, target}
-use Rattle.iri.specs.Targets.{resolvePath, internalRefusal}
-use Rattle.iri.specs.Pack.{packForm, packageOf}
 use Rattle.iri.specs.declared.dots.Move.{Move}
 use Rattle.iri.specs.declared.dots.Move.the-variants as move
-use Rattle.iri.specs.declared.pack.Place.{Place}
-use Rattle.iri.specs.declared.pack.Place.the-variants as place
-use Rattle.iri.specs.declared.targets.Name.{Name}
-use Rattle.iri.specs.declared.targets.Name.the-variants as name
 use Rattle.iri.specs.declared.split.Parts.{Parts}
 
 -- the scheme ends at a, the authority at b, the path at p, the query at q
@@ -30,17 +24,6 @@ pub record SplitAt (s : List ℕ) (a b p q : ℕ) : Type 0 where
   pub b-le : b ≤ p
   pub p-le : p ≤ q
   pub q-le : q ≤ length s
-
--- bytes were sent to place at of an output: the next place is counted in any case, and where they fit they stand there and nowhere else
-pub record Sent (out : List ℕ) (at : ℕ) (bytes : List ℕ) (next : ℕ) (out' : List ℕ) : Type 0 where
-  pub next-is : next ≡ at + length bytes
-  pub fits : at + length bytes ≤ length out → out' ≡ take at out ++ (bytes ++ drop (at + length bytes) out)
-
--- a text is written to the start of an output where all of it fits, else the output stays; its length is told in any case
-pub record Fitted (out text : List ℕ) (n : ℕ) (out' : List ℕ) : Type 0 where
-  pub is : n ≡ length text
-  pub fits : n ≤ length out → out' ≡ text ++ drop n out
-  pub short : length out < n → out' ≡ out
 
 -- the code's own name for a rule
 abbrev pub ofMove : Move → Rule
@@ -79,27 +62,3 @@ pub record Taken (base r : List ℕ) (b x : Parts) : Type 0 where
 pub record Went (base r : List ℕ) (k : ℕ) (out' : List ℕ) : Type 0 where
   pub text : take k out' ≡ (target base r) .path
   pub few : k ≤ 511
-
--- what an internal target resolves to stands in the scratch; or its refusal
-abbrev pub NamedAs : List ℕ → List ℕ → Name → List ℕ → Type 0
-NamedAs source target (name.Length k) out' =
-    (internalRefusal source target ≡ 0) × (take k out' ≡ resolvePath source target) × (k ≡ length (resolvePath source target))
-NamedAs source target (name.Refused k) out' = (internalRefusal source target ≡ k) × (k ≡ 0 → ⊥)
-
--- the first k bytes of the scratch are the package IRI of an authority
-pub record Decoded (s : List ℕ) (k : ℕ) (out' : List ℕ) : Type 0 where
-  pub text : take k out' ≡ packageOf s
-  pub few : k ≤ length s
-
--- a pack IRI has its authority, without the two slashes, from x to y, and its path from y on
-pub record Placed (s : List ℕ) (x y : ℕ) : Type 0 where
-  pub form : packForm s ≡ true
-  pub authority : drop 2 (authorityOf s) ≡ take (y - x) (drop x s)
-  pub path : pathOf s ≡ drop y s
-  pub order : x ≤ y
-  pub inside : y ≤ length s
-  pub few : y - x ≤ 765
-
-abbrev pub PlacedAs : List ℕ → Place → Type 0
-PlacedAs s (place.At x y) = Placed s x y
-PlacedAs s place.Nothing = packForm s ≡ false

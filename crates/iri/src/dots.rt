@@ -1,9 +1,9 @@
 // Dot segments: RFC 3986, 5.2.4.
-use crate::texts::begins;
-use crate::texts::is_same;
-use crate::writing::emit;
 use chars::search::find;
 use chars::search::find_past;
+use chars::texts::begins;
+use chars::texts::is_same;
+use output::writing::emit;
 ghost use mathlib.Core.Path.{_≡_};
 ghost use Prim.Native.Nat.{_-_, _≤_};
 ghost use lib.ListN.{length};

@@ -1,9 +1,4 @@
-// IRIs: taking apart, resolving references, pack IRIs, names of Relationships parts.
+// IRIs: taking apart, and resolving references.
 pub mod dots;
-pub mod pack;
 pub mod references;
-pub mod relationships;
 pub mod split;
-pub mod targets;
-pub mod texts;
-pub mod writing;

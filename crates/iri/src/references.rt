@@ -2,20 +2,20 @@
 use crate::dots::remove_dots;
 use crate::split::Parts;
 use crate::split::split;
-use crate::writing::Written;
-use crate::writing::emit;
-use chars::search::byte_at;
+use base::bytes::byte_at;
 use chars::search::find_past;
 use names::iris::is_iri;
 use names::iris::is_package_iri;
+use output::writing::Written;
+use output::writing::emit;
 ghost use mathlib.Core.Path.{_≡_};
 ghost use mathlib.Core.List.{_++_};
 ghost use Prim.Native.Nat.{_≤_};
 ghost use lib.ListN.{length};
-ghost use Rattle.iri.specs.References.{mergedPath, target, resolve};
-ghost use Rattle.iri.specs.Targets.{resolveReference};
-ghost use Rattle.iri.specs.Answers.{ofWritten, written};
-ghost use Rattle.iri.specs.Scratch.{Sent, Fitted, Reached, Taken, Went};
+ghost use Rattle.iri.specs.References.{mergedPath, target, resolve, resolveReference};
+ghost use Rattle.output.specs.Answers.{ofWritten, written};
+ghost use Rattle.output.specs.Sends.{Sent, Fitted};
+ghost use Rattle.iri.specs.Scratch.{Reached, Taken, Went};
 
 // 5.2.3, for a reference with a path and neither scheme nor authority; authority: the base has one.
 fn merge(authority: bool, base: &[u8], r: &[u8], out: &mut [u8]) -> usize

@@ -1,6 +1,6 @@
 // The components of an IRI: RFC 3986, appendix B.
+use base::bytes::byte_at;
 use chars::search::Alphabet;
-use chars::search::byte_at;
 use chars::search::find;
 use names::members::first_member;
 ghost use mathlib.Core.Path.{_≡_};

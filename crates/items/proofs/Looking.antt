@@ -8,8 +8,8 @@ use mathlib.Core.Option.{none, some}
 use native.Mathlib.Omega.{arith}
 use lib.ListN.{length, getD}
 use borrow.Author.Tests.{ne-eqb}
-use Rattle.iri.specs.Answers.{answer}
-use Rattle.iri.proofs.Sending.{refusing-is}
+use Rattle.output.specs.Answers.{answer}
+use Rattle.output.proofs.Answering.{refusing-is}
 use Rattle.model.specs.Sets.{Bytes}
 use Rattle.model.specs.Fields.{first, prefixOf, suffixOf, askedField}
 use Rattle.model.specs.Package.{noItem, State, Item, itemAt}

@@ -6,7 +6,7 @@ use mathlib.Core.List.{List, []}
 use native.Mathlib.Omega.{arith}
 use Rattle.model.specs.Sets.{Bytes}
 use Rattle.model.specs.Calls.{Looks, View}
-use Rattle.store.specs.Buffer.{part}
+use Rattle.base.specs.Buffer.{part}
 use Rattle.contract.specs.Answers.{ofView}
 use Rattle.contract.specs.Ran.{Ran}
 use Rattle.items.specs.Spans.{Viewed}

@@ -4,7 +4,7 @@ use Prim.Native.Nat.{ℕ, _+_, _≤_}
 use mathlib.Core.List.{List}
 use lib.ListN.{length}
 use Rattle.model.specs.Calls.{Looks, View}
-use Rattle.store.specs.Buffer.{part}
+use Rattle.base.specs.Buffer.{part}
 use Rattle.contract.specs.Answers.{ofView}
 use Rattle.contract.specs.Ran.{Ran}
 

@@ -1,9 +1,9 @@
 // Whether a new item may stand beside the held ones: refusals 10, 12, 11 and 15.
+use base::bytes::byte_at;
+use base::numbers::smaller;
 use chars::folding::is_derivable;
 use chars::folding::is_equivalent;
 use chars::folding::is_same_letter;
-use chars::numbers::smaller;
-use chars::search::byte_at;
 use chars::starts::same_start;
 use contract::ITEM_LIMIT;
 use contract::search::item_count;

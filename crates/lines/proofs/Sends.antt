@@ -8,8 +8,8 @@ use native.Mathlib.Omega.{arith}
 use lib.ListN.{length, length-append}
 use borrow.Author.Tests.{eq-eqb, ne-eqb}
 use Rattle.chars.specs.Bytes.{ascii}
-use Rattle.iri.specs.Scratch.{Sent}
-use Rattle.iri.proofs.Sending.{sent-none, sent-more, sent-as}
+use Rattle.output.specs.Sends.{Sent}
+use Rattle.output.proofs.Sending.{sent-none, sent-more, sent-as}
 use Rattle.model.specs.Sets.{Bytes}
 use Rattle.model.specs.Texts.{line}
 use Rattle.model.specs.Package.{State, Item, content, spelling, mediaTypeOf}

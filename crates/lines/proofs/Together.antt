@@ -11,7 +11,7 @@ use lib.Seq.{take-all, take-length, take-take, take-append-add, length-take-le}
 use borrow.Author.Tests.{leb-true, leb-false}
 use Rattle.chars.specs.Lists.{indexOf}
 use Rattle.chars.proofs.Searches.{index-le}
-use Rattle.store.specs.Buffer.{splice}
+use Rattle.base.specs.Buffer.{splice}
 use Rattle.model.specs.Sets.{Bytes}
 use Rattle.model.specs.Texts.{lineFeed}
 use Rattle.lines.specs.Gathering.{stretch, together, Gathers}

@@ -1,7 +1,7 @@
 // Lines out of an input that comes in pieces.
-use chars::numbers::smaller;
+use base::moves::copy_in;
+use base::numbers::smaller;
 use chars::search::find;
-use store::moves::copy_in;
 ghost use Rattle.lines.specs.Gathering.{Gathers};
 
 // How many bytes of a line there are so far, and the place behind them in the piece: that of a line feed, or the end.

@@ -1,5 +1,5 @@
 // What a line reads as.
-use chars::search::byte_at;
+use base::bytes::byte_at;
 use chars::search::find;
 ghost use mathlib.Core.Path.{_≡_};
 ghost use Rattle.lines.specs.Reading.{Parsed, typedAs};

@@ -1,9 +1,9 @@
 // The lines that are printed.
-use iri::writing::emit;
+use output::writing::emit;
 ghost use mathlib.Core.Path.{_≡_};
 ghost use Prim.Native.Nat.{_≤_, _<_};
 ghost use lib.ListN.{length};
-ghost use Rattle.iri.specs.Scratch.{Sent};
+ghost use Rattle.output.specs.Sends.{Sent};
 ghost use Rattle.model.specs.Sheet.{column, numberLine, typeOrDash};
 ghost use Rattle.lines.specs.Printing.{padded, cellOf, typeGiven, counts, row};
 

@@ -4,7 +4,7 @@ use Prim.Native.Nat.{ℕ, suc}
 use mathlib.Core.Path.{_≡_, refl, ap}
 use mathlib.Core.List.{List, [], _∷_, _++_}
 use lib.ListN.{length}
-use Rattle.iri.specs.Answers.{Answer}
+use Rattle.output.specs.Answers.{Answer}
 use Rattle.model.specs.Package.{State}
 use Rattle.model.specs.Calls.{Call, step, answers, after}
 

@@ -14,12 +14,12 @@ use Rattle.names.specs.Types.{mediaType, extension}
 use Rattle.names.proofs.Bounds.{part-name-size, media-type-size}
 use Rattle.model.specs.Sets.{Bytes, lookup}
 use Rattle.model.specs.Fields.{when, first, prefixOf, defaultFields, overrideFields}
-use Rattle.model.specs.Package.{Item, Default, Override, State, nameKey, keyOfDefault, keyOfOverride, extensionOf, defaultFor, typeOf}
-use Rattle.model.specs.Package.{typeOfDefault, mediaTypeOf, defaultKind, overrideKind}
+use Rattle.model.specs.Package.{Item, Default, Override, State, nameKey, keyOfDefault, keyOfOverride, extensionOf, defaultFor, typeOf, typeOfDefault, mediaTypeOf, defaultKind, overrideKind}
 use Rattle.model.specs.Good.{Good}
 use Rattle.model.proofs.Lists.{each-at}
 use Rattle.model.proofs.Lookups.{lookup-each}
 use Rattle.model.proofs.ItemNames.{prefixes-named}
+use Rattle.names.proofs.Lengths.{media-size}
 
 -- the prefix of a held item
 pub prefix-few : (S : State) → Good S → (i : ℕ) (d : Item) → i < length (S .items) → length (prefixOf (getD (S .items) i d .name)) ≤ 255

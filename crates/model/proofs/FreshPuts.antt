@@ -18,16 +18,13 @@ use Rattle.names.specs.declared.items.Suffix.{Suffix}
 use Rattle.names.specs.declared.items.Suffix.the-variants.{Whole, Piece}
 use Rattle.names.specs.declared.items.ItemName.{ItemName}
 use Rattle.names.specs.declared.items.ItemName.the-variants.{Named, Refused}
-use Rattle.iri.specs.Answers.{Answer}
+use Rattle.output.specs.Answers.{Answer, Text, filled}
 use Rattle.model.specs.Sets.{Bytes, Key, before, sameKey, any, filter, lookup, insert, Each}
 use Rattle.model.specs.Fields.{first, prefixOf, suffixOf, itemField, overrideFields}
-use Rattle.model.specs.Package.{Item, Default, Override, State, itemKind, defaultKind, overrideKind}
-use Rattle.model.specs.Package.{itemKey, nameKey, keyOfItem, keyOfDefault, keyOfOverride, rank, group, isPart, content, disagrees}
-use Rattle.model.specs.Package.{extensionOf, mediaTypeOf}
-use Rattle.model.specs.Calls.{PutItem, Print, ReadPart, MediaType, Text, filled, printed, changed, changeMade, change}
-use Rattle.model.specs.Calls.{putRefusal, putIn, misfits, putItemRefusal, putDefaultRefusal, putOverrideRefusal}
+use Rattle.model.specs.Package.{Item, Default, Override, State, itemKind, defaultKind, overrideKind, itemKey, nameKey, keyOfItem, keyOfDefault, keyOfOverride, rank, group, isPart, content, disagrees, extensionOf, mediaTypeOf}
+use Rattle.model.specs.Calls.{PutItem, Print, ReadPart, MediaType, printed, changed, changeMade, change, putRefusal, putIn, misfits, putItemRefusal, putDefaultRefusal, putOverrideRefusal}
 use Rattle.model.specs.Demand.{OverridesAnswer, DefaultsAnswer, WholeItemsAreParts}
-use Rattle.model.proofs.Bools.{not-passing}
+use Rattle.base.proofs.Bools.{not-passing}
 use Rattle.model.proofs.Lists.{each-both, any-filter-none, filter-none}
 use Rattle.model.proofs.Refusals.{all-none, unmet, changed-done, changed-accepted}
 use Rattle.model.proofs.Puts.{put-fields, put-free, put-own, put-found}

@@ -5,18 +5,11 @@ use mathlib.Core.Path.{_≡_, refl, ap, _∙_}
 use mathlib.Core.Bool.{not}
 use mathlib.Core.List.{List, [], _∷_}
 use mathlib.Core.Option.{Option, some}
-use Rattle.iri.specs.Answers.{Answer}
+use Rattle.output.specs.Answers.{Answer}
 use Rattle.model.specs.Sets.{held, lookup, insert, remove, Each}
-use Rattle.model.specs.Fields.{when, suffixOf, last, extensionField, partField, sourceField, idField}
-use Rattle.model.specs.Fields.{defaultFields, overrideFields, relationshipFields}
-use Rattle.model.specs.Package.{Item, Default, Override, Relationship, State, itemAt, sameLast}
-use Rattle.model.specs.Package.{Kind, itemKind, defaultKind, overrideKind, relationshipKind, keyOfItem}
-use Rattle.model.specs.Calls.{Change, PutItem, DropItem, PutDefault, DropDefault, PutOverride, DropOverride, PutRelationship}
-use Rattle.model.specs.Calls.{DropRelationship}
-use Rattle.model.specs.Calls.{done, changed, change, changeRefusal, changeMade}
-use Rattle.model.specs.Calls.{putRefusal, dropRefusal, putIn, takenOut, misfits}
-use Rattle.model.specs.Calls.{putItemRefusal, putDefaultRefusal, putOverrideRefusal, putRelationshipRefusal}
-use Rattle.model.specs.Calls.{dropItemRefusal, dropDefaultRefusal, dropOverrideRefusal, dropRelationshipRefusal}
+use Rattle.model.specs.Fields.{when, suffixOf, last, extensionField, partField, sourceField, idField, defaultFields, overrideFields, relationshipFields}
+use Rattle.model.specs.Package.{Item, Default, Override, Relationship, State, itemAt, sameLast, Kind, itemKind, defaultKind, overrideKind, relationshipKind, keyOfItem}
+use Rattle.model.specs.Calls.{Change, PutItem, DropItem, PutDefault, DropDefault, PutOverride, DropOverride, PutRelationship, DropRelationship, done, changed, change, changeRefusal, changeMade, putRefusal, dropRefusal, putIn, takenOut, misfits, putItemRefusal, putDefaultRefusal, putOverrideRefusal, putRelationshipRefusal, dropItemRefusal, dropDefaultRefusal, dropOverrideRefusal, dropRelationshipRefusal}
 use Rattle.model.specs.Demand.{dropOf, IsPut}
 use Rattle.model.proofs.Lists.{each-append}
 use Rattle.model.proofs.Sets.{remove-insert}

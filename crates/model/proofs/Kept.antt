@@ -8,12 +8,11 @@ use native.Mathlib.Omega.{arith}
 use lib.Dec.{eqb, leb}
 use lib.ListN.{length, drop, replicate, length-append, length-drop}
 use borrow.Author.Tests.{leb-true}
-use Rattle.iri.specs.Answers.{answer}
+use Rattle.output.specs.Answers.{answer, choose, Outcome, Text, Refused, filled}
 use Rattle.model.specs.Sets.{Bytes}
 use Rattle.model.specs.Package.{State, empty}
-use Rattle.model.specs.Calls.{Look, Find, View, Totals, Change, Call, Start, Looks, Changes, Prints, done, refused, choose, pick}
-use Rattle.model.specs.Calls.{changed, startRefusal, askedRefusal, changeRefusal, changeMade, look, change, Printed, Text, Refused}
-use Rattle.model.specs.Calls.{printed, valueCount, filled, step, lent}
+use Rattle.model.specs.Calls.{Look, Find, View, Totals, Change, Call, Start, Looks, Changes, Prints, done, refused, pick, changed, startRefusal, askedRefusal, changeRefusal, changeMade, look, change, printed, valueCount, step, lent}
+use Rattle.output.proofs.Answering.{filled-kept}
 
 changed-kept : (n : ℕ) (S T : State) → (changed n S T .0 .number ≡ 0 → ⊥) → (changed n S T .1 ≡ S) × (changed n S T .0 .output ≡ [])
 changed-kept n S T h = go (eqb n 0) h
@@ -42,17 +41,6 @@ look-kept S (View name) h = go (eqb (askedRefusal S name) 0) _ h
     go false o k = absurd (k refl)
 look-kept S Totals h = refl
 
-filled-kept : (n : ℕ) (out : Bytes) (w : Printed) → (filled n out w .number ≡ 0 → ⊥) → filled n out w .output ≡ out
-unfolding filled
-filled-kept n out (Refused k) h = refl
-filled-kept n out (Text t more) h = go (leb (length t) (length out)) h
-  where
-    go : (b : Bool) →
-        (choose b (answer 0 (length t ∷ more) (t ++ drop (length t) out)) (answer 3 (length t ∷ replicate (n - 1) 0) out) .number ≡ 0 → ⊥) →
-        choose b (answer 0 (length t ∷ more) (t ++ drop (length t) out)) (answer 3 (length t ∷ replicate (n - 1) 0) out) .output ≡ out
-    go true k = absurd (k refl)
-    go false k = refl
-
 -- "package and outputs stay unchanged"
 pub refusal-kept : (room : ℕ) (S : State) (c : Call) → (step room S c .0 .number ≡ 0 → ⊥) →
     (step room S c .1 ≡ S) × (step room S c .0 .output ≡ lent c)
@@ -62,7 +50,7 @@ refusal-kept room S (Changes c) h = change-kept S c h
 refusal-kept room S (Prints p out) h = (refl, filled-kept (valueCount p) out (printed S (length out) p) h)
 
 -- an output has as many bytes after the call as before it
-pub output-length : (n : ℕ) (out : Bytes) (w : Printed) → length (filled n out w .output) ≡ length out
+pub output-length : (n : ℕ) (out : Bytes) (w : Outcome) → length (filled n out w .output) ≡ length out
 unfolding filled
 output-length n out (Refused k) = refl
 output-length n out (Text t more) = go (leb (length t) (length out)) refl

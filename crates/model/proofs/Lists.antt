@@ -10,7 +10,7 @@ use lib.ListN.{length, getD, take, drop, length-drop}
 use lib.Seq.{slice, length-take-le, getD-take, getD-drop, drop-nil, take-append-add, drop-append-add}
 use borrow.Author.Tests.{ltb-true, ltb-false, lt-ltb, le-ltb}
 use Rattle.model.specs.Sets.{any, filter, Each, AllPairs}
-use Rattle.model.proofs.Bools.{or-false-left, or-false-right, not-passing}
+use Rattle.base.proofs.Bools.{or-false-left, or-false-right, not-passing}
 
 module _ {E : Type 0} where
   -- EACH, PAIRS

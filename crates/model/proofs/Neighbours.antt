@@ -9,7 +9,7 @@ use lib.Dec.{ltb}
 use lib.ListN.{length, getD, take, drop, take-append-drop}
 use borrow.Author.Tests.{ltb-true, lt-ltb, le-ltb}
 use Rattle.chars.specs.Folding.{fold, order}
-use Rattle.chars.proofs.Bools.{and-left, and-right, and-true}
+use Rattle.base.proofs.Bools.{and-left, and-right, and-true}
 use Rattle.chars.proofs.Equivalence.{equivalent-fold, fold-equivalent}
 use Rattle.names.specs.declared.items.Suffix.{Suffix}
 use Rattle.names.specs.declared.items.Suffix.the-variants.{Whole, Piece}
@@ -18,8 +18,7 @@ use Rattle.model.specs.Places.{place}
 use Rattle.model.specs.Fields.{prefixOf, suffixOf}
 use Rattle.model.specs.Package.{Item, rank, itemKey, keyOfItem, group, disagrees}
 use Rattle.model.specs.Good.{Beside}
-use Rattle.model.proofs.Lists.{each-both, each-take, pairs-map, pairs-take, pairs-drop, pairs-both, pairs-each, any-last, any-head}
-use Rattle.model.proofs.Lists.{any-filter, any-append, last-of-take, head-of-drop}
+use Rattle.model.proofs.Lists.{each-both, each-take, pairs-map, pairs-take, pairs-drop, pairs-both, pairs-each, any-last, any-head, any-filter, any-append, last-of-take, head-of-drop}
 use Rattle.model.proofs.Walks.{first-le, first-fails, first-rest}
 use Rattle.model.proofs.KeyOrders.{before-turn, between, goes-on-less}
 use Rattle.model.proofs.Keys.{number-less}

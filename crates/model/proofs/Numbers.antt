@@ -16,19 +16,11 @@ use Rattle.names.specs.Iris.{iri, packageIri}
 use Rattle.names.specs.declared.items.Suffix.{Suffix}
 use Rattle.names.specs.declared.items.Suffix.the-variants.{Whole, Piece}
 use Rattle.names.specs.declared.items.ItemName.{ItemName}
-use Rattle.iri.specs.Targets.{internal, resolvePath, sourceRefusal, internalRefusal, targetRefusal}
+use Rattle.targets.specs.Targets.{internal, resolvePath, sourceRefusal, internalRefusal, targetRefusal}
 use Rattle.model.specs.Sets.{Bytes, Key, held, any, lookup, Each}
-use Rattle.model.specs.Fields.{when, first, prefixOf, suffixOf, askedField, itemField, partField, extensionField, sourceField}
-use Rattle.model.specs.Fields.{idField, packageField, targetField}
-use Rattle.model.specs.Fields.{defaultFields, overrideFields, relationshipFields}
-use Rattle.model.specs.Package.{Item, Default, Override, Relationship, State, Kind, itemKind, defaultKind, overrideKind}
-use Rattle.model.specs.Package.{relationshipKind}
-use Rattle.model.specs.Package.{itemKey, nameKey, relationshipKey, keyOfItem, group, disagrees, grows, itemAt}
-use Rattle.model.specs.Calls.{Change, PutItem, DropItem, PutDefault, DropDefault, PutOverride, DropOverride, PutRelationship}
-use Rattle.model.specs.Calls.{DropRelationship}
-use Rattle.model.specs.Calls.{Numbered, noRoom, putRefusal, dropRefusal, misfits, clash, changeRefusal, askedRefusal}
-use Rattle.model.specs.Calls.{putItemRefusal, putDefaultRefusal, putOverrideRefusal, putRelationshipRefusal}
-use Rattle.model.specs.Calls.{dropItemRefusal, dropDefaultRefusal, dropOverrideRefusal, dropRelationshipRefusal}
+use Rattle.model.specs.Fields.{when, first, prefixOf, suffixOf, askedField, itemField, partField, extensionField, sourceField, idField, packageField, targetField, defaultFields, overrideFields, relationshipFields}
+use Rattle.model.specs.Package.{Item, Default, Override, Relationship, State, Kind, itemKind, defaultKind, overrideKind, relationshipKind, itemKey, nameKey, relationshipKey, keyOfItem, group, disagrees, grows, itemAt}
+use Rattle.model.specs.Calls.{Change, PutItem, DropItem, PutDefault, DropDefault, PutOverride, DropOverride, PutRelationship, DropRelationship, Numbered, noRoom, putRefusal, dropRefusal, misfits, clash, changeRefusal, askedRefusal, putItemRefusal, putDefaultRefusal, putOverrideRefusal, putRelationshipRefusal, dropItemRefusal, dropDefaultRefusal, dropOverrideRefusal, dropRelationshipRefusal}
 use Rattle.model.proofs.Lists.{each-append}
 
 pub numbered : (n : ℕ) → 2 ≤ n → n ≤ 16 → Numbered n

@@ -15,9 +15,8 @@ use Rattle.model.specs.Places.{lead}
 use Rattle.model.specs.Fields.{prefixOf}
 use Rattle.model.specs.Package.{Item, State, keyOfItem, group, isPart, spelling, leaders, groups, parts, itemKind}
 use Rattle.model.specs.Good.{Good}
-use Rattle.model.proofs.Bools.{not-passing}
-use Rattle.model.proofs.Lists.{each-map, each-both, each-drop, pairs-drop, map-each, filter-append, filter-all, filter-none}
-use Rattle.model.proofs.Lists.{filter-filter, each-filter, pairs-filter, length-filter}
+use Rattle.base.proofs.Bools.{not-passing}
+use Rattle.model.proofs.Lists.{each-map, each-both, each-drop, pairs-drop, map-each, filter-append, filter-all, filter-none, filter-filter, each-filter, pairs-filter, length-filter}
 use Rattle.model.proofs.Walks.{lead-take}
 use Rattle.model.proofs.KeyOrders.{begins-less}
 use Rattle.model.proofs.ItemNames.{accepted-prefix}

@@ -12,7 +12,7 @@ use Rattle.chars.specs.Bytes.{slash}
 use Rattle.chars.specs.Lists.{same, begins}
 use Rattle.chars.specs.Folding.{lower, fold, order}
 use Rattle.chars.specs.declared.folding.Order.the-variants.{Less, Greater}
-use Rattle.chars.proofs.Bools.{and-left, and-right, and-true}
+use Rattle.base.proofs.Bools.{and-left, and-right, and-true}
 use Rattle.chars.proofs.Orders.{less-greater}
 use Rattle.names.specs.Names.{partName}
 use Rattle.names.proofs.NameEnds.{part-end}

@@ -12,7 +12,7 @@ use Rattle.chars.specs.declared.folding.Order.the-variants.{Less}
 use Rattle.chars.proofs.Equivalence.{same-eq, eq-same}
 use Rattle.model.specs.Sets.{Bytes, Key, thenBy, keyOrder, isLess, before, filter, Each, Sorted}
 use Rattle.model.specs.Places.{firstWhere, bound, lead}
-use Rattle.model.proofs.Bools.{not-passing}
+use Rattle.base.proofs.Bools.{not-passing}
 use Rattle.model.proofs.Lists.{each-map, filter-append, filter-all, filter-none}
 use Rattle.model.proofs.KeyOrders.{between, begins-less}
 use Rattle.model.proofs.Walks.{lead-take}

@@ -11,19 +11,12 @@ use borrow.Author.Tests.{ltb-false}
 use Rattle.chars.specs.Folding.{equivalent}
 use Rattle.model.specs.Sets.{Bytes, Key, sameKey, sumOf, insert, remove, Each, AllPairs}
 use Rattle.model.specs.Fields.{prefixOf, suffixOf}
-use Rattle.model.specs.Package.{Item, State, Kind, itemKind, defaultKind, overrideKind, relationshipKind, empty, charge, group}
-use Rattle.model.specs.Package.{disagrees, grows}
-use Rattle.model.specs.Package.{itemKey, nameKey, relationshipKey, keyOfItem}
-use Rattle.model.specs.Calls.{Call, Start, Looks, Changes, Prints, capacityLimit, overhead, startRefusal, step, after}
-use Rattle.model.specs.Calls.{Change, PutItem, DropItem, PutDefault, DropDefault, PutOverride, DropOverride, PutRelationship}
-use Rattle.model.specs.Calls.{DropRelationship}
-use Rattle.model.specs.Calls.{putRefusal, putIn, takenOut, misfits, changeRefusal, changeMade, change}
-use Rattle.model.specs.Calls.{putItemRefusal, putDefaultRefusal, putOverrideRefusal, putRelationshipRefusal}
+use Rattle.model.specs.Package.{Item, State, Kind, itemKind, defaultKind, overrideKind, relationshipKind, empty, charge, group, disagrees, grows, itemKey, nameKey, relationshipKey, keyOfItem}
+use Rattle.model.specs.Calls.{Call, Start, Looks, Changes, Prints, capacityLimit, overhead, startRefusal, step, after, Change, PutItem, DropItem, PutDefault, DropDefault, PutOverride, DropOverride, PutRelationship, DropRelationship, putRefusal, putIn, takenOut, misfits, changeRefusal, changeMade, change, putItemRefusal, putDefaultRefusal, putOverrideRefusal, putRelationshipRefusal}
 use Rattle.model.specs.Good.{GoodSet, Beside, Good}
-use Rattle.model.proofs.Bools.{or-false-left}
+use Rattle.base.proofs.Bools.{or-false-left}
 use Rattle.model.proofs.Lists.{each-map, each-both, any-none, any-filter-none}
-use Rattle.model.proofs.Sets.{Absent, each-insert, pairs-insert, sorted-insert, each-remove, pairs-remove, sorted-remove}
-use Rattle.model.proofs.Sets.{length-insert, length-remove}
+use Rattle.model.proofs.Sets.{Absent, each-insert, pairs-insert, sorted-insert, each-remove, pairs-remove, sorted-remove, length-insert, length-remove}
 use Rattle.model.proofs.Refusals.{unmet, changed-good}
 use Rattle.model.proofs.Items.{beside-new, beside-comm}
 use Rattle.model.proofs.KindLaws.{Lawful, item-lawful, default-lawful, override-lawful, relationship-lawful}

@@ -9,8 +9,9 @@ use lib.ListN.{length}
 use borrow.Author.Tests.{leb-true, eqb-true, eqb-false, eq-eqb, ne-eqb, not-false}
 use Rattle.names.specs.Names.{partName, reserved}
 use Rattle.names.specs.Iris.{iri}
-use Rattle.iri.specs.Targets.{internal, resolvePath, internalRefusal, targetRefusal}
-use Rattle.iri.proofs.Judging.{iri-few, target-few}
+use Rattle.targets.specs.Targets.{internal, resolvePath, internalRefusal, targetRefusal}
+use Rattle.names.proofs.Lengths.{iri-few}
+use Rattle.targets.proofs.Judging.{target-few}
 use Rattle.model.specs.Fields.{sourceField, idField, relationshipTypeField, modeField, targetField, relationshipFields}
 use Rattle.model.specs.Package.{Relationship, relationshipKind}
 use Rattle.model.proofs.Refusals.{all-none, unmet}

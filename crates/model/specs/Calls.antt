@@ -1,23 +1,19 @@
 -- What each call answers, and the package after it: document 01's ledger, call by call.
 -- Assumes nothing.
-use Prim.Native.Nat.{ℕ, _+_, _-_, _≤_}
+use Prim.Native.Nat.{ℕ, _+_, _≤_}
 use mathlib.Core.Path.{_≡_}
 use mathlib.Core.Bool.{Bool, true, false, not, _||_, cond}
-use mathlib.Core.List.{List, [], _∷_, _++_}
+use mathlib.Core.List.{List, [], _∷_}
 use mathlib.Core.Option.{Option, none, some}
 use lib.Dec.{leb, ltb, eqb}
-use lib.ListN.{length, getD, take, drop, replicate}
-use Rattle.iri.specs.Answers.{Answer, answer}
+use lib.ListN.{length, getD, take, drop}
+use Rattle.output.specs.Answers.{Outcome, Text, Refused, unless, Answer, answer, choose, filled}
 use Rattle.iri.specs.References.{resolve}
-use Rattle.iri.specs.Targets.{resolvePath}
-use Rattle.iri.specs.Pack.{unfragmented, packIri}
+use Rattle.targets.specs.Targets.{resolvePath}
+use Rattle.pack.specs.Pack.{unfragmented, packIri}
 use Rattle.model.specs.Sets.{Bytes, Key, held, any, lookup, insert, remove}
-use Rattle.model.specs.Fields.{when, first, prefixOf, suffixOf, askedField, itemField, partField, extensionField, sourceField}
-use Rattle.model.specs.Fields.{idField, packageField}
-use Rattle.model.specs.Package.{Item, Default, Override, Relationship, State, empty, charge}
-use Rattle.model.specs.Package.{Kind, itemKind, defaultKind, overrideKind, relationshipKind}
-use Rattle.model.specs.Package.{itemKey, nameKey, relationshipKey, keyOfItem, keyOfRelationship}
-use Rattle.model.specs.Package.{group, isPart, content, spelling, parts, disagrees, grows, itemAt, mediaTypeOf}
+use Rattle.model.specs.Fields.{when, first, prefixOf, suffixOf, askedField, itemField, partField, extensionField, sourceField, idField, packageField}
+use Rattle.model.specs.Package.{Item, Default, Override, Relationship, State, empty, charge, Kind, itemKind, defaultKind, overrideKind, relationshipKind, itemKey, nameKey, relationshipKey, keyOfItem, keyOfRelationship, group, isPart, content, spelling, parts, disagrees, grows, itemAt, mediaTypeOf}
 use Rattle.model.specs.Texts.{typesText, relationshipsText}
 
 -- a call that only looks
@@ -65,10 +61,6 @@ refused n = answer n (0 ∷ []) []
 -- "refuses by a number from document 01"; on a buffer that passes the test not by 1
 abbrev pub Numbered : ℕ → Type 0
 Numbered n = (n ≤ 16) × (n ≡ 1 → ⊥)
-
-abbrev pub choose : Bool → Answer → Answer → Answer
-choose true a b = a
-choose false a b = b
 
 abbrev pub pick : Bool → Answer × State → Answer × State → Answer × State
 pick true a b = a
@@ -213,14 +205,7 @@ look S (View name) = choose (eqb (askedRefusal S name) 0) (answer 0 [] (bytesOf 
 -- "totals: how many items are held, how many groups are a part, the charge"
 look S Totals = answer 0 (length (S .items) ∷ length (parts (S .items)) ∷ charge S ∷ []) []
 
--- PRINTS. What a call writes, and its values besides the length; or the number of its refusal
-pub data Printed : Type 0 where
-  Text : (text : Bytes) (values : List ℕ) → Printed
-  Refused : ℕ → Printed
-
-abbrev pub unless : ℕ → Printed → Printed
-unless n w = cond (eqb n 0) w (Refused n)
-
+-- PRINTS
 -- "13 not held, no part yet"
 abbrev pub noPart : State → Bytes → ℕ
 noPart S name = when (not (isPart (group name (S .items)))) 13
@@ -234,7 +219,7 @@ flag b = cond b 1 0
 
 -- "internal, the pack IRI of the path resolved from the source as held; external, the target resolved against the package IRI without
 -- fragment; besides the length it answers the mode, and 1 if that part is held, else 0 (external: 0)"; "13 not held"
-unfoldable pub resolved : State → Bytes → Option Relationship → Printed
+unfoldable pub resolved : State → Bytes → Option Relationship → Outcome
 resolved S base none = Refused 13
 resolved S base (some r) =
     cond (eqb (r .mode) 1)
@@ -242,7 +227,7 @@ resolved S base (some r) =
     (Text (packIri base (resolvePath (r .source) (r .target))) (0 ∷ flag (isPart (group (resolvePath (r .source) (r .target)) (S .items))) ∷ []))
 
 -- for an output of so many bytes
-unfoldable pub printed : State → ℕ → Print → Printed
+unfoldable pub printed : State → ℕ → Print → Outcome
 -- "read part(name, offset): the content from there, as much as the output takes; none past its end"
 printed S size (ReadPart name offset) =
     unless (first (partField name ∷ noPart S name ∷ [])) (Text (take size (drop offset (content (group name (S .items))))) [])
@@ -269,14 +254,6 @@ valueCount (PartAt position) = 1
 valueCount (ResolveRelationship source id base) = 3
 valueCount WriteTypes = 1
 valueCount (WriteRelationships source) = 1
-
--- "where it writes bytes, their number is the value"; "Output past the written bytes is kept"; "3 output too short (carries the length
--- needed)"; "A refusal answers its number and 0 for every value (3: the length as the first)"
-unfoldable pub filled : ℕ → Bytes → Printed → Answer
-filled count output (Refused k) = answer k (replicate count 0) output
-filled count output (Text t values) =
-    choose (leb (length t) (length output)) (answer 0 (length t ∷ values) (t ++ drop (length t) output))
-    (answer 3 (length t ∷ replicate (count - 1) 0) output)
 
 -- A STEP: the answer, and the package after the call. room is the length of the lent package
 abbrev pub step : ℕ → State → Call → Answer × State

@@ -13,7 +13,7 @@ use Rattle.names.specs.declared.items.Suffix.{Suffix}
 use Rattle.names.specs.declared.items.Suffix.the-variants.{Whole, Piece}
 use Rattle.names.specs.declared.items.ItemName.{ItemName}
 use Rattle.names.specs.declared.items.ItemName.the-variants.{Named, Refused}
-use Rattle.iri.specs.Targets.{sourceRefusal, targetRefusal}
+use Rattle.targets.specs.Targets.{sourceRefusal, targetRefusal}
 use Rattle.model.specs.Sets.{Bytes}
 
 -- the refusal n where the test holds

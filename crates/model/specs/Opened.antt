@@ -11,21 +11,18 @@ use Rattle.names.specs.Types.{token, mediaType, extension, identifier}
 use Rattle.names.specs.Iris.{scheme, colonFirst, iri, packageIri}
 use Rattle.names.specs.Numbers.{value, numeral, digits}
 use Rattle.names.specs.Reading.{readNumber}
-use Rattle.iri.specs.Components.{schemeLength, authorityLength, afterScheme, afterAuthority, afterPath, schemeOf, authorityOf, pathOf}
-use Rattle.iri.specs.Components.{queryOf, fragmentOf, recompose}
-use Rattle.iri.specs.References.{firstSegment, rule, turn, turns, removeDotSegments, merge, relativePath, transform, resolve}
-use Rattle.iri.specs.Targets.{sourceRefusal, internal, resolvePath, internalRefusal, targetRefusal, resolveTarget, resolveReference}
-use Rattle.iri.specs.Pack.{unfragmented, escape, escaped, packIri, partOrRoot, compose, slashed, lowTriplet, decoded, packageOf}
-use Rattle.iri.specs.Pack.{unfragmentedIri, packForm, resolvePack}
-use Rattle.iri.specs.Relationships.{relationshipsOf, relationshipsPart, sourceOf, sourcePart}
+use Rattle.iri.specs.Components.{schemeLength, authorityLength, afterScheme, afterAuthority, afterPath, schemeOf, authorityOf, pathOf, queryOf, fragmentOf, recompose}
+use Rattle.iri.specs.References.{firstSegment, rule, turn, turns, removeDotSegments, merge, relativePath, transform, resolve, resolveReference}
+use Rattle.targets.specs.Targets.{sourceRefusal, internal, resolvePath, internalRefusal, targetRefusal, resolveTarget}
+use Rattle.pack.specs.Pack.{unfragmented, escape, escaped, packIri, partOrRoot, compose, slashed, lowTriplet, decoded, packageOf, unfragmentedIri, packForm, resolvePack}
+use Rattle.targets.specs.Relationships.{relationshipsOf, relationshipsPart, sourceOf, sourcePart}
 use Rattle.model.specs.Sets.{thenBy, keyOrder, any, filter, sumOf, lookup, insert, remove}
 use Rattle.model.specs.Places.{firstWhere}
 use Rattle.model.specs.Fields.{first, prefixOf, suffixOf, itemField, defaultFields, overrideFields, relationshipFields}
 use Rattle.model.specs.Package.{charge, group, completeFrom, isPart, content, spelling, leaders, parts, itemAt, mediaTypeOf}
 use Rattle.model.specs.Texts.{quoted, typesText, relationshipsText}
-use Rattle.model.specs.Calls.{startRefusal, clash, putItemRefusal, dropItemRefusal, putDefaultRefusal, dropDefaultRefusal}
-use Rattle.model.specs.Calls.{putOverrideRefusal, dropOverrideRefusal, putRelationshipRefusal, dropRelationshipRefusal, change}
-use Rattle.model.specs.Calls.{askedRefusal, look, resolved, printed, filled, answers, after}
+use Rattle.model.specs.Calls.{startRefusal, clash, putItemRefusal, dropItemRefusal, putDefaultRefusal, dropDefaultRefusal, putOverrideRefusal, dropOverrideRefusal, putRelationshipRefusal, dropRelationshipRefusal, change, askedRefusal, look, resolved, printed, answers, after}
+use Rattle.output.specs.Answers.{filled}
 use Rattle.model.specs.Sheet.{withoutEmptyEnd, lineRead, listing, shown, sheet}
 
 unfoldable pub everything : Unit {0}

@@ -12,7 +12,7 @@ use Rattle.chars.specs.Lists.{split, all, every, indexOf, lacks, tiled}
 use Rattle.chars.specs.Characters.{unit}
 use Rattle.chars.specs.declared.search.Alphabet.the-variants.{Id}
 use Rattle.chars.specs.declared.units.Grammar.the-variants.{Segment}
-use Rattle.chars.proofs.Bools.{and-left, and-right}
+use Rattle.base.proofs.Bools.{and-left, and-right}
 use Rattle.names.specs.Names.{segment, partName}
 use Rattle.names.specs.Types.{token, mediaType, extension, identifier}
 

@@ -7,3 +7,5 @@ pub mod NameBytes
 pub mod Spelling
 pub mod Bounds
 pub mod NameEnds
+pub mod Lengths
+pub mod FoldedNames

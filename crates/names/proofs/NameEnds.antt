@@ -9,7 +9,7 @@ use lib.Dec.{eqb}
 use lib.ListN.{length}
 use Rattle.chars.specs.Bytes.{slash, within}
 use Rattle.chars.specs.Lists.{split, cut, all}
-use Rattle.chars.proofs.Bools.{and-false}
+use Rattle.base.proofs.Bools.{and-false}
 use Rattle.names.specs.Names.{segment, partName}
 
 split-some : (b : ℕ) (s : List ℕ) → split b s ≡ [] → ⊥

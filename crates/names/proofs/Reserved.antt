@@ -10,7 +10,8 @@ use lib.Seq.{take-nil, length-take-le}
 use Rattle.chars.specs.Bytes.{ascii, slash}
 use Rattle.chars.specs.Lists.{same, afterLast}
 use Rattle.chars.specs.Folding.{equivalent, endsIn}
-use Rattle.chars.proofs.Searches.{take-rest, last-le}
+use Rattle.base.proofs.Lists.{take-rest}
+use Rattle.chars.proofs.Searches.{last-le}
 use Rattle.names.specs.Names.{reserved}
 
 pub drop-take : (q n : ℕ) (s : List ℕ) → drop q (take n s) ≡ take (n - q) (drop q s)

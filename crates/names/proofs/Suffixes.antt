@@ -11,7 +11,8 @@ use borrow.Author.Tests.{eq-eqb, ne-eqb}
 use Rattle.chars.specs.Bytes.{ascii, slash, openBracket, closeBracket}
 use Rattle.chars.specs.Lists.{indexOf, afterLast}
 use Rattle.chars.specs.Folding.{equivalent}
-use Rattle.chars.proofs.Searches.{take-rest, index-le, index-found, last-le}
+use Rattle.base.proofs.Lists.{take-rest}
+use Rattle.chars.proofs.Searches.{index-le, index-found, last-le}
 use Rattle.names.specs.Names.{partName}
 use Rattle.names.specs.Numbers.{value, numeral}
 use Rattle.names.specs.Reading.{readNumber}

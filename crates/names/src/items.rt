@@ -2,8 +2,8 @@
 use crate::parts::is_part_name;
 use crate::table::is_digit;
 use crate::table::table;
+use base::bytes::byte_at;
 use chars::folding::is_equivalent;
-use chars::search::byte_at;
 use chars::search::find;
 use chars::search::find_past;
 ghost use mathlib.Core.Path.{_≡_};

@@ -1,9 +1,9 @@
 // Part names.
 use crate::table::table;
 use crate::units::all_units;
+use base::bytes::byte_at;
 use chars::folding::ends_in;
 use chars::folding::is_equivalent;
-use chars::search::byte_at;
 use chars::search::find;
 use chars::search::find_past;
 use chars::units::Grammar;

@@ -1,7 +1,7 @@
 // Units: a byte that stands for itself, a triplet, a character of ucschar.
 use crate::table::class;
 use crate::table::is_hex_digit;
-use chars::search::byte_at;
+use base::bytes::byte_at;
 use chars::units::Grammar;
 use chars::units::hex_value;
 ghost use mathlib.Core.Path.{_≡_};

@@ -8,7 +8,7 @@ use native.Mathlib.Omega.{arith}
 use lib.Dec.{ltb, eqb}
 use lib.ListN.{length}
 use borrow.Author.Tests.{eqb-true, eqb-false}
-use Rattle.iri.specs.Answers.{Answer}
+use Rattle.output.specs.Answers.{Answer}
 use Rattle.model.specs.Calls.{Call, Find, View, Totals, Start, Looks, Changes, Prints, capacityLimit, overhead, startRefusal}
 use Rattle.store.specs.Packages.{isPackage}
 use Rattle.store.proofs.PackageTest.{package-short, package-zeros}

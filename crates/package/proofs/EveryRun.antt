@@ -7,7 +7,7 @@ use mathlib.Core.List.{List, _∷_}
 use lib.Dec.{eqb}
 use lib.ListN.{length}
 use borrow.Author.Tests.{eqb-true, eqb-false}
-use Rattle.iri.specs.Answers.{Answer}
+use Rattle.output.specs.Answers.{Answer}
 use Rattle.chars.specs.declared.folding.Order.{Order}
 use Rattle.chars.specs.declared.folding.Order.the-variants.{Less, Equal, Greater}
 use Rattle.model.specs.Sets.{keyOrder, isLess, isEqual}

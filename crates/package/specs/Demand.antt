@@ -6,7 +6,7 @@ use mathlib.Core.Path.{_≡_}
 use mathlib.Core.Bool.{true, false}
 use mathlib.Core.List.{List, [], _∷_, map}
 use lib.ListN.{length, getD}
-use Rattle.iri.specs.Answers.{Answer, answer}
+use Rattle.output.specs.Answers.{Answer, answer}
 use Rattle.model.specs.Sets.{Key, sameKey, sumOf, AllPairs}
 use Rattle.model.specs.Package.{State, empty, itemLimit, defaultLimit, overrideLimit, relationshipLimit, keyOfItem, keyOfDefault, keyOfOverride, keyOfRelationship, itemCharge, defaultCharge, overrideCharge, relationshipCharge, charge, parts}
 use Rattle.model.specs.Calls.{Call, Start, Looks, Totals, step, answers, after, lent}

@@ -1,4 +1,4 @@
--- What is copied to an output: a text, the rest of a text, the content of a run of items; and how long that is.
+-- What is copied to an output: the rest of a text, the content of a run of items; and how long that is.
 -- Assumes nothing.
 use Prim.Native.Nat.{ℕ, suc, _+_, _-_, _^_, _≤_, _<_, min}
 use mathlib.Core.Path.{_≡_, refl, ap, sym, _∙_, subst}
@@ -11,12 +11,13 @@ use lib.Dec.{leb}
 use lib.ListN.{length, getD, take, drop, length-take, length-drop, length-append, drop-of-length-le}
 use lib.Seq.{take-all, take-nil, drop-nil, drop-cons}
 use borrow.Author.Tests.{leb-true, leb-false}
-use Rattle.iri.specs.Answers.{answer, written, Text}
-use Rattle.iri.specs.Scratch.{Sent}
-use Rattle.iri.proofs.Sending.{sent-none, sent-more, answer-bytes}
+use Rattle.output.specs.Answers.{answer, written, Text}
+use Rattle.output.specs.Sends.{Sent}
+use Rattle.output.proofs.Sending.{sent-none, sent-more}
+use Rattle.output.proofs.Answering.{answer-bytes}
 use Rattle.model.specs.Package.{noItem, Item, State, content}
 use Rattle.model.proofs.Contents.{read-piece}
-use Rattle.store.specs.Buffer.{splice}
+use Rattle.base.specs.Buffer.{splice}
 use Rattle.store.specs.Layout.{countOf}
 use Rattle.store.specs.Rows.{rowAt, fieldOf}
 use Rattle.store.specs.Packages.{Sound}
@@ -24,12 +25,6 @@ use Rattle.contract.specs.Holds.{Holds}
 use Rattle.contract.proofs.ItemRows.{items-le, item-bytes}
 use Rattle.parts.specs.Runs.{run}
 use Rattle.parts.specs.Copies.{taken, Copying, Copied, Measuring, Measured}
-
--- A WHOLE TEXT
-module _ (s out : List ℕ) where
-  pub all-put : length s ≤ length out → (out' : List ℕ) → out' ≡ splice out 0 s → answer 0 (length s ∷ []) out' ≡ written (Text s) out
-  unfolding splice
-  all-put l out' e = answer-bytes (Text s) s out out' (length s) refl refl l (e ∙ rw zero-add)
 
 -- THE REST OF A TEXT, as much as fits
 take-fitting : (r : ℕ) (d : List ℕ) → take (min (length d) r) d ≡ take r d
@@ -45,13 +40,12 @@ module _ (out s : List ℕ) (at skip : ℕ) where
 
   pub rest-some : (k : ℕ) → k ≡ min (length s - skip) (length out - at) → (out' : List ℕ) → out' ≡ splice out at (take (skip + k - skip) (drop skip s)) →
       Sent out at (take (length out - at) (drop skip s)) (at + k) out'
-  unfolding splice
   rest-some k ek out' e =
       let m : skip + k - skip ≡ min (length (drop skip s)) (length out - at) = omega (arith, length-drop skip s) in
       let x : take (skip + k - skip) (drop skip s) ≡ take (length out - at) (drop skip s) = ap (λ (n : ℕ). take n (drop skip s)) m ∙ take-fitting (length out - at) (drop skip s) in
       record {
         next-is = omega (arith, length-take (length out - at) (drop skip s), length-drop skip s);
-        fits = λ _. e ∙ ap (λ (y : List ℕ). splice out at y) x ∙ append-assoc (take at out) (take (length out - at) (drop skip s)) (drop (at + length (take (length out - at) (drop skip s))) out);
+        fits = λ _. e ∙ ap (λ (y : List ℕ). splice out at y) x;
       }
 
 -- THE CONTENT OF A RUN

@@ -3,19 +3,19 @@
 use Prim.Native.Nat.{ℕ, _≤_, _<_}
 use mathlib.Core.Path.{_≡_, refl, sym, _∙_}
 use mathlib.Core.Bool.{Bool, true, false, not}
-use mathlib.Core.List.{List, [], _∷_, _++_}
+use mathlib.Core.List.{List, [], _∷_}
 use native.Mathlib.Nat.{zero-add}
 use native.Mathlib.Omega.{arith}
 use lib.Dec.{ltb}
-use lib.ListN.{length, drop, length-take}
+use lib.ListN.{length, length-take}
 use borrow.Author.Tests.{ltb-true, ltb-false, not-true, not-false, le-leb, lt-leb}
-use Rattle.iri.specs.Answers.{Answer, answer, written}
-use Rattle.iri.specs.Answers as iri
-use Rattle.iri.proofs.Sending.{answer-bytes}
+use Rattle.output.specs.Answers.{Answer, answer, written, Text}
+use Rattle.output.proofs.Sending.{sent-start}
+use Rattle.output.proofs.Answering.{answer-bytes}
 use Rattle.names.specs.Names.{partName}
 use Rattle.model.specs.Fields.{first}
 use Rattle.model.specs.Package.{State, group, isPart, parts}
-use Rattle.model.specs.Calls.{Totals, ReadPart, PartAt, Looks, Prints, Text, look, printed}
+use Rattle.model.specs.Calls.{Totals, ReadPart, PartAt, Looks, Prints, look, printed}
 use Rattle.model.proofs.Parts.{parts-few}
 use Rattle.store.specs.Layout.{usedOf, countOf}
 use Rattle.store.specs.Rows.{rowAt, fieldOf}
@@ -32,7 +32,7 @@ use Rattle.parts.specs.Runs.{Grouped, Judged}
 use Rattle.parts.specs.Walks.{Walked}
 use Rattle.parts.specs.Copies.{taken, Copied}
 use Rattle.parts.proofs.GroupRuns.{part-of}
-use Rattle.parts.proofs.TextAnswers.{text-filled, text-refused, text-answered}
+use Rattle.parts.proofs.TextAnswers.{text-refused, text-answered}
 
 module _ (b : List ℕ) (o : Open b) where
   module _ (n : ℕ) (c : Counted b n) where
@@ -55,7 +55,7 @@ module _ (b : List ℕ) (o : Open b) where
           (λ S h. let e = w .ended S h (c .is S h) l in rw (le-leb (length (parts (S .items))) k (omega (arith, e .0, e .1))))
 
       -- "part at position i, from 0, in folded order: its spelling": s, the prefix in its first row
-      pub position-written : i < n → (s : List ℕ) → (Sound b → i < countOf b → s ≡ fieldOf (rowAt b i) 0) → (a : Answer) → a ≡ written (iri.Text s) out → Ran (Prints (PartAt k) out) b a b
+      pub position-written : i < n → (s : List ℕ) → (Sound b → i < countOf b → s ≡ fieldOf (rowAt b i) 0) → (a : Answer) → a ≡ written (Text s []) out → Ran (Prints (PartAt k) out) b a b
       unfolding printed
       position-written l s es a ea =
           text-answered b o (PartAt k) refl out s a ea
@@ -90,5 +90,4 @@ module _ (b : List ℕ) (o : Open b) where
           let T = taken S f t offset (length out) in
           let l : length T ≤ length out = rw length-take (omega arith) in
           let m : n ≡ length T = s .next-is ∙ zero-add (length T) in
-          let z : out' ≡ T ++ drop (length T) out = s .fits (omega arith) ∙ rw zero-add in
-          rw (← eq, not-false q hq, part S h, not-false y hy, g .is S h) (answer-bytes (iri.Text T) T out out' n refl m (omega arith) z ∙ text-filled T out))
+          rw (← eq, not-false q hq, part S h, not-false y hy, g .is S h) (answer-bytes 1 (Text T []) T [] out out' n refl m (omega arith) (sent-start out out' T n s l)))

@@ -4,7 +4,7 @@ use Prim.Native.Nat.{ℕ, _+_, _-_, _*_, _^_, _≤_}
 use mathlib.Core.Path.{_≡_}
 use mathlib.Core.List.{List, _++_}
 use lib.ListN.{length, take, drop}
-use Rattle.iri.specs.Scratch.{Sent}
+use Rattle.output.specs.Sends.{Sent}
 use Rattle.model.specs.Package.{State, content}
 use Rattle.contract.specs.Holds.{Holds}
 use Rattle.parts.specs.Runs.{run}

@@ -1,15 +1,14 @@
 // The parts in folded order: a walk over them, and the part at a position.
-use crate::copying::put_all;
 use crate::runs::makes_part;
 use crate::runs::own_end;
 use contract::gate::opened;
 use contract::search::item_count;
-use iri::writing::Written;
+use output::writing::Written;
 use store::rows::field;
 ghost use mathlib.Core.Path.{_≡_};
 ghost use mathlib.Core.Bool.{cond};
 ghost use Prim.Native.Nat.{_≤_};
-ghost use Rattle.iri.specs.Answers.{ofWritten};
+ghost use Rattle.output.specs.Answers.{ofWritten};
 ghost use Rattle.model.specs.Calls.{Call, Print};
 ghost use Rattle.store.specs.Layout.{slotCount, countOf};
 ghost use Rattle.contract.specs.Ran.{Ran};
@@ -63,5 +62,5 @@ pub fn part_at(pkg: &[u8], position: u64, out: &mut [u8]) -> Written
     if n <= row {
         return Written::Refused(13);
     }
-    put_all(field(pkg, row, 0), out)
+    put_text(field(pkg, row, 0), out)
 }

@@ -10,8 +10,8 @@ use lib.ListN.{length}
 use borrow.Author.Tests.{not-true, not-false, leb-true, le-leb, lt-leb, ne-eqb}
 use Rattle.names.specs.Types.{identifier}
 use Rattle.names.specs.Iris.{packageIri}
-use Rattle.iri.specs.Answers.{Answer}
-use Rattle.iri.specs.Targets.{sourceRefusal, targetRefusal, targetRefusalFrom}
+use Rattle.output.specs.Answers.{Answer}
+use Rattle.targets.specs.Targets.{sourceRefusal, targetRefusal, targetRefusalFrom}
 use Rattle.model.specs.Sets.{Bytes, Key, held, lookup}
 use Rattle.model.specs.Fields.{when, first, sourceField, idField, relationshipTypeField, modeField, targetField, relationshipFields}
 use Rattle.model.specs.Package.{State, Relationship, relationshipLimit, relationshipKey, keyOfRelationship}

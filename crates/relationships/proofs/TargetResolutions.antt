@@ -6,26 +6,27 @@ use mathlib.Core.Bool.{Bool, true, false, not}
 use mathlib.Core.List.{List, [], _∷_, _++_}
 use mathlib.Core.Option.{Option, none, some, Option·none-ne-some, Option·some-injective}
 use native.Mathlib.Omega.{arith}
-use lib.Dec.{leb, eqb}
-use lib.ListN.{length, take, drop}
+use lib.Dec.{eqb}
+use lib.ListN.{length, take}
 use lib.Seq.{length-take-le}
-use borrow.Author.Tests.{not-false, lt-leb, le-leb, eq-eqb, ne-eqb}
+use borrow.Author.Tests.{not-false, eq-eqb, ne-eqb}
 use Rattle.chars.specs.Bytes.{numberSign}
 use Rattle.chars.specs.Lists.{indexOf}
 use Rattle.chars.proofs.Searches.{index-le}
 use Rattle.names.specs.Iris.{packageIri}
-use Rattle.iri.specs.Answers.{Answer, answer}
+use Rattle.output.specs.Answers.{Answer, answer, Text, Refused, filled, choose}
 use Rattle.iri.specs.References.{resolve}
-use Rattle.iri.specs.Targets.{resolvePath}
-use Rattle.iri.specs.Pack.{unfragmented, packIri}
-use Rattle.iri.specs.Scratch.{Fitted, Reached}
-use Rattle.iri.proofs.Lists.{length-take-few}
-use Rattle.iri.proofs.Judging.{package-few}
-use Rattle.iri.proofs.Sending.{refusing-is}
+use Rattle.targets.specs.Targets.{resolvePath}
+use Rattle.pack.specs.Pack.{unfragmented, packIri}
+use Rattle.output.specs.Sends.{Fitted}
+use Rattle.iri.specs.Scratch.{Reached}
+use Rattle.base.proofs.Lists.{length-take-few}
+use Rattle.names.proofs.Lengths.{package-few}
+use Rattle.output.proofs.Answering.{refusing-is, fitted-short, fitted-bytes, filled-kept}
 use Rattle.model.specs.Sets.{Bytes, lookup}
 use Rattle.model.specs.Fields.{when, first, sourceField, idField, packageField}
 use Rattle.model.specs.Package.{relationshipKind, State, Relationship, relationshipKey, keyOfRelationship, group, isPart}
-use Rattle.model.specs.Calls.{Prints, ResolveRelationship, Numbered, Text, Refused, choose, flag, resolved, printed, filled, withRelationships}
+use Rattle.model.specs.Calls.{Prints, ResolveRelationship, Numbered, flag, resolved, printed, withRelationships}
 use Rattle.model.proofs.Numbers.{numbered, zero-numbered, resolve-fields-numbered}
 use Rattle.model.proofs.Refusals.{all-none, unmet}
 use Rattle.model.proofs.Lookups.{lookup-each}
@@ -46,6 +47,7 @@ use Rattle.contract.proofs.RowEntries.{row-here, row-none}
 use Rattle.contract.proofs.SetRows.{rowFor}
 use Rattle.contract.proofs.SetStates.{found-row, relationships-among}
 use Rattle.parts.specs.Runs.{PartOf}
+use Rattle.parts.proofs.TextAnswers.{text-numbered}
 use Rattle.relationships.specs.Resolutions.{ofResolution, LedTo, RowResolved}
 use Rattle.relationships.specs.declared.resolving.Resolution.the-variants as resolution
 use Rattle.relationships.proofs.RelationshipCalls.{first-of-two, first-past-two, key-is}
@@ -65,41 +67,6 @@ module _ (s i b : Bytes) (k : ℕ) (ek : k ≡ first (sourceField s ∷ idField 
 
     pub asked-no-package : y ≡ false → 9 ≡ first (sourceField s ∷ idField i ∷ packageField b ∷ [])
     asked-no-package e = sym (base-is false e)
-
--- A TEXT that was written where it fits, with its values
-module _ (t out out' vs : List ℕ) (n : ℕ) (f : Fitted out t n out') (l : length out' ≡ length out) where
-  text-short : length out' < n → answer 3 (n ∷ 0 ∷ 0 ∷ []) out' ≡ filled 3 out (Text t vs)
-  unfolding filled
-  text-short s =
-      let k : out' ≡ out = f .short (omega arith) in
-      let g : leb (length t) (length out) ≡ false = lt-leb (length t) (length out) (omega (arith, f .is)) in
-      rw (g, ← f .is, k)
-
-  text-whole : n ≤ length out' → answer 0 (n ∷ vs) out' ≡ filled 3 out (Text t vs)
-  unfolding filled
-  text-whole s =
-      let k : out' ≡ t ++ drop n out = f .fits (omega arith) in
-      let g : leb (length t) (length out) ≡ true = le-leb (length t) (length out) (omega (arith, f .is)) in
-      rw (g, ← f .is, k)
-
-text-kept : (t out vs : List ℕ) (a : Answer) → a ≡ filled 3 out (Text t vs) → (a .number ≡ 0 → ⊥) → a .output ≡ out
-unfolding filled
-text-kept t out vs a e h = ap (λ (x : Answer). x .output) e ∙ go (leb (length t) (length out)) (λ z. h (ap (λ (x : Answer). x .number) e ∙ z))
-  where
-    made : Bool → Answer
-    made b = choose b (answer 0 (length t ∷ vs) (t ++ drop (length t) out)) (answer 3 (length t ∷ 0 ∷ 0 ∷ []) out)
-
-    go : (b : Bool) → (made b .number ≡ 0 → ⊥) → made b .output ≡ out
-    go true h = absurd (h refl)
-    go false h = refl
-
-text-numbered : (t out vs : List ℕ) (a : Answer) → a ≡ filled 3 out (Text t vs) → Numbered (a .number)
-unfolding filled
-text-numbered t out vs a e = subst (λ (x : Answer). Numbered (x .number)) (sym e) (go (leb (length t) (length out)))
-  where
-    go : (b : Bool) → Numbered (choose b (answer 0 (length t ∷ vs) (t ++ drop (length t) out)) (answer 3 (length t ∷ 0 ∷ 0 ∷ []) out) .number)
-    go true = zero-numbered
-    go false = numbered 3 (omega arith) (omega arith)
 
 -- AN EXTERNAL TARGET; k is where the package IRI's fragment begins
 module _ (target base : Bytes) (lt : length target ≤ 255) (lb : length base ≤ 255) (k : ℕ) (ek : k ≡ 0 + indexOf numberSign base) where
@@ -121,10 +88,10 @@ module _ (target base : Bytes) (lt : length target ≤ 255) (lb : length base �
     f′ = subst (λ (b : Bytes). Fitted out (resolve b target) n out') bare-is f
 
     pub external-short : length out' < n → ofResolution (resolution.Short n) out' ≡ filled 3 out (Text (resolve (unfragmented base) target) (1 ∷ 0 ∷ []))
-    external-short s = text-short (resolve (unfragmented base) target) out out' (1 ∷ 0 ∷ []) n f′ l s
+    external-short s = fitted-short 3 (Text (resolve (unfragmented base) target) (1 ∷ 0 ∷ [])) (resolve (unfragmented base) target) (1 ∷ 0 ∷ []) out out' n refl f′ l s
 
     pub external-whole : n ≤ length out' → ofResolution (resolution.External n) out' ≡ filled 3 out (Text (resolve (unfragmented base) target) (1 ∷ 0 ∷ []))
-    external-whole s = text-whole (resolve (unfragmented base) target) out out' (1 ∷ 0 ∷ []) n f′ l s
+    external-whole s = fitted-bytes 3 (Text (resolve (unfragmented base) target) (1 ∷ 0 ∷ [])) (resolve (unfragmented base) target) (1 ∷ 0 ∷ []) out out' n refl f′ l s
 
 -- AN INTERNAL TARGET; the first k bytes of the scratch are its path
 module _ (source target : Bytes) (ls : length source ≤ 255) (lt : length target ≤ 255) (k : ℕ) (path : List ℕ) (r : Reached true source target k path) where
@@ -149,7 +116,7 @@ module _ (source target : Bytes) (ls : length source ≤ 255) (lt : length targe
     g = subst (λ (p : Bytes). Fitted out (packIri base p) n out') path-is f
 
     pub internal-short : length out' < n → LedTo b source target base out (ofResolution (resolution.Short n) out')
-    internal-short s = record { kept = λ _. g .short (omega arith); numbered = numbered 3 (omega arith) (omega arith); is = λ S h. text-short T out out' (values S) n g l s }
+    internal-short s = record { kept = λ _. g .short (omega arith); numbered = numbered 3 (omega arith) (omega arith); is = λ S h. fitted-short 3 (Text T (values S)) T (values S) out out' n refl g l s }
 
     pub internal-whole : n ≤ length out' → (y : Bool) → PartOf b (take k path) y → LedTo b source target base out (ofResolution (resolution.Internal n y) out')
     internal-whole s y w = record {
@@ -157,7 +124,7 @@ module _ (source target : Bytes) (ls : length source ≤ 255) (lt : length targe
       numbered = zero-numbered;
       is = λ S h.
           ap (λ (x : Bool). answer 0 (n ∷ 0 ∷ flag x ∷ []) out') (w .is S h ∙ ap (λ (p : Bytes). isPart (group p (S .items))) path-is)
-          ∙ text-whole T out out' (values S) n g l s;
+          ∙ fitted-bytes 3 (Text T (values S)) T (values S) out out' n refl g l s;
     }
 
 -- A ROW; t is its target
@@ -178,8 +145,8 @@ module _ (b : List ℕ) (i : ℕ) (li : i < countOf b) (base out t : Bytes) (et 
     pub row-external : g ≡ 32771 → (a : Answer) → a ≡ filled 3 out (Text (resolve (unfragmented base) t) (1 ∷ 0 ∷ [])) → RowResolved b i base out a
     unfolding resolved
     row-external z a ea = record {
-      kept = text-kept (resolve (unfragmented base) t) out (1 ∷ 0 ∷ []) a ea;
-      numbered = text-numbered (resolve (unfragmented base) t) out (1 ∷ 0 ∷ []) a ea;
+      kept = filled-kept 3 out (Text (resolve (unfragmented base) t) (1 ∷ 0 ∷ [])) a ea;
+      numbered = text-numbered 3 out (resolve (unfragmented base) t) (1 ∷ 0 ∷ []) a ea;
       is = λ S h r e f.
           let m : eqb (r .mode) 1 ≡ true = eq-eqb (r .mode) 1 (omega (arith, tag-is S h r e)) in
           ea ∙ rw (m, ← target-is S h r e);

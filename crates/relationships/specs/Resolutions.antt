@@ -4,11 +4,11 @@ use Prim.Native.Nat.{ℕ}
 use mathlib.Core.Path.{_≡_}
 use mathlib.Core.List.{List, [], _∷_}
 use mathlib.Core.Option.{some}
-use Rattle.iri.specs.Answers.{Answer, answer, refusing}
-use Rattle.iri.specs.Targets.{resolvePath}
-use Rattle.iri.specs.Pack.{packIri}
+use Rattle.output.specs.Answers.{Answer, answer, refusing, Text, filled}
+use Rattle.targets.specs.Targets.{resolvePath}
+use Rattle.pack.specs.Pack.{packIri}
 use Rattle.model.specs.Package.{relationshipKind, Relationship, State, group, isPart}
-use Rattle.model.specs.Calls.{Numbered, Text, flag, resolved, filled}
+use Rattle.model.specs.Calls.{Numbered, flag, resolved}
 use Rattle.store.specs.Rows.{rowAt}
 use Rattle.contract.specs.Rows.{relationshipRow}
 use Rattle.contract.specs.Holds.{Holds}

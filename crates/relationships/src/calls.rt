@@ -1,15 +1,15 @@
 // The calls on relationships.
+use contract::RELATIONSHIPS;
 use contract::RELATIONSHIP_LIMIT;
 use contract::RELATIONSHIP_TAG;
-use contract::RELATIONSHIPS;
 use contract::answers::Did;
 use contract::entries::drop_row;
 use contract::entries::put_row;
 use contract::gate::opened;
-use iri::targets::source_refusal;
-use iri::targets::target_refusal;
 use names::iris::is_package_iri;
 use names::types::is_id;
+use targets::targets::source_refusal;
+use targets::targets::target_refusal;
 ghost use mathlib.Core.Path.{_≡_};
 ghost use mathlib.Core.List.{[], _∷_};
 ghost use Rattle.model.specs.Fields.{first, sourceField, idField, relationshipFields};

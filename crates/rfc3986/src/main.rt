@@ -1,18 +1,18 @@
 // Reads lines, each a call with its fields parted by a space, and prints what the engine answers: the number, the values, the bytes written.
 //   R base reference   T source target   C package name   P pack-iri   F source   B name
 // The input is RFC 3986's table of 5.4 (but the empty reference), the marked examples, and others of each call.
-use chars::search::byte_at;
+use base::bytes::byte_at;
 use chars::search::find;
-use iri::pack::Resolved;
-use iri::pack::compose;
-use iri::pack::resolve_pack;
 use iri::references::resolve_reference;
-use iri::relationships::relationships_part;
-use iri::relationships::source_of;
-use iri::targets::resolve_target;
-use iri::writing::Written;
 use libc::STDIN_FILENO;
 use libc::STDOUT_FILENO;
+use output::writing::Written;
+use pack::pack::Resolved;
+use pack::pack::compose;
+use pack::pack::resolve_pack;
+use targets::relationships::relationships_part;
+use targets::relationships::source_of;
+use targets::targets::resolve_target;
 
 fn print_number(n: usize) {
     io::print_decimal(STDOUT_FILENO, n as u64);

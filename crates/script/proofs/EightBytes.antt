@@ -5,8 +5,9 @@ use mathlib.Core.Path.{_≡_, refl}
 use mathlib.Core.List.{List}
 use native.Mathlib.Omega.{arith}
 use lib.ListN.{length}
-use Rattle.store.specs.Buffer.{splice, le4}
-use Rattle.store.proofs.Writes.{Write, write, join}
+use Rattle.base.specs.Buffer.{splice}
+use Rattle.store.specs.Buffer.{le4}
+use Rattle.base.proofs.Writes.{Write, write, join}
 use Rattle.store.proofs.Joined.{le4-write}
 use Rattle.script.specs.Numbers.{le8}
 

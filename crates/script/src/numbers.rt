@@ -4,7 +4,7 @@ use store::bytes::put4;
 ghost use mathlib.Core.Path.{_≡_};
 ghost use Prim.Native.Nat.{_+_, _≤_};
 ghost use lib.ListN.{length};
-ghost use Rattle.store.specs.Buffer.{splice};
+ghost use Rattle.base.specs.Buffer.{splice};
 ghost use Rattle.script.specs.Numbers.{num8, le8};
 
 const HALF: u64 = 0x100000000;

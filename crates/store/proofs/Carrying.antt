@@ -6,12 +6,13 @@ use Prim.Native.Nat.{ℕ, _+_, _-_, _≤_, _<_}
 use mathlib.Core.List.{List, _++_}
 use native.Mathlib.Omega.{arith}
 use lib.ListN.{length}
-use Rattle.store.specs.Buffer.{part, splice, le4}
+use Rattle.base.specs.Buffer.{part, splice}
+use Rattle.store.specs.Buffer.{le4}
 use Rattle.store.specs.Layout.{heapStart, slotAt, slotOf, offOf, sizeOf}
 use Rattle.store.specs.Places.{Settled, Carried, carried}
-use Rattle.store.proofs.Parts.{length-part, splice-part, part-add}
-use Rattle.store.proofs.Writes.{Write, write, before, after, join}
-use Rattle.store.proofs.Joined.{le4-write, commute}
+use Rattle.base.proofs.Parts.{length-part, splice-part, part-add}
+use Rattle.base.proofs.Writes.{Write, write, before, after, join, commute}
+use Rattle.store.proofs.Joined.{le4-write}
 
 pub carry-is : (b m : List ℕ) (a q c : ℕ) → m ≡ splice b (heapStart + (c - q)) (part (heapStart + a) q b) → m ≡ carried b a q c
 unfolding carried

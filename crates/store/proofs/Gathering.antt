@@ -9,14 +9,15 @@ use native.Mathlib.Omega.{arith}
 use lib.Dec.{leb}
 use lib.ListN.{length}
 use borrow.Author.Tests.{le-leb, lt-leb}
-use Rattle.store.specs.Buffer.{part, splice, le4}
+use Rattle.base.specs.Buffer.{part, splice}
+use Rattle.store.specs.Buffer.{le4}
 use Rattle.store.specs.Layout.{heapStart, heapSize, formatOf, capOf, countOf, usedOf, endOf, slotAt, slotOf, offOf, sizeOf}
 use Rattle.store.specs.Rows.{rowAt, rowsOf, rowSize, tabulate, total}
 use Rattle.store.specs.Packages.{Sound, Gathered}
 use Rattle.store.specs.Places.{Lowest, Settled, Placed}
-use Rattle.store.proofs.Parts.{length-part}
-use Rattle.store.proofs.Numbers.{num4-le4}
-use Rattle.store.proofs.Writes.{Write, write, before, after, num-within, num-before}
+use Rattle.base.proofs.Parts.{length-part}
+use Rattle.store.proofs.Numbers.{num4-le4, num-within, num-before}
+use Rattle.base.proofs.Writes.{Write, write, before, after}
 use Rattle.store.proofs.Joined.{le4-write}
 use Rattle.store.proofs.Headers.{kind-same}
 use Rattle.store.proofs.RowPlaces.{three, row-same, row-size}

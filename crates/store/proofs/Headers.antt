@@ -5,11 +5,12 @@ use Prim.Native.Nat.{ℕ, _+_, _≤_, _<_, _^_}
 use mathlib.Core.List.{List, _++_}
 use native.Mathlib.Omega.{arith}
 use lib.ListN.{length, getD}
-use Rattle.store.specs.Buffer.{part, num4, le4}
+use Rattle.base.specs.Buffer.{part}
+use Rattle.store.specs.Buffer.{num4, le4}
 use Rattle.store.specs.Layout.{formatOf, countOf}
 use Rattle.store.specs.Rows.{noRow, rowsOf, rowAt}
-use Rattle.store.proofs.Parts.{getD-part}
-use Rattle.store.proofs.Writes.{part-part}
+use Rattle.base.proofs.Parts.{getD-part}
+use Rattle.base.proofs.Writes.{part-part}
 use Rattle.store.proofs.Tabulated.{length-tabulate, getD-tabulate}
 
 module _ (x y z : ℕ) where

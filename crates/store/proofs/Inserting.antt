@@ -7,13 +7,15 @@ use mathlib.Core.List.{List, [], _++_, append-nil, append-assoc}
 use native.Mathlib.Omega.{arith}
 use native.Mathlib.Numerals.{add-one}
 use lib.ListN.{length, length-append}
-use Rattle.store.specs.Buffer.{part, splice, le4}
+use Rattle.base.specs.Buffer.{part, splice}
+use Rattle.store.specs.Buffer.{le4}
 use Rattle.store.specs.Layout.{heapStart, heapSize, formatOf, capOf, countOf, usedOf, endOf, slotAt, slotOf, slotBytes, offOf, sizeOf}
 use Rattle.store.specs.Rows.{makeRow, rowOf, rowAt, rowsOf, tabulate, insertAt, total}
 use Rattle.store.specs.Packages.{Sound, Apart, Room, Inserted}
 use Rattle.store.specs.Places.{Placed}
-use Rattle.store.proofs.Parts.{length-part}
-use Rattle.store.proofs.Writes.{Write, write, before, after, within, num-within, num-before, part-part, part-all, part-mid}
+use Rattle.base.proofs.Parts.{length-part}
+use Rattle.base.proofs.Writes.{Write, write, before, after, within, part-part, part-all, part-mid}
+use Rattle.store.proofs.Numbers.{num-within, num-before}
 use Rattle.store.proofs.Headers.{counts-0, counts-4, counts-8, counts-size, kind-same, rows-count}
 use Rattle.store.proofs.SlotNumbers.{slot-size, slot-0, slot-4, slot-8, slot-12, slot-16, slot-20}
 use Rattle.store.proofs.RowPlaces.{three, row-same}

@@ -1,39 +1,18 @@
 -- Writes side by side come to one: a slot, the counts, the fields of a row.
 -- Assumes nothing.
-use mathlib.Core.Path.{_≡_, refl, sym, ap, _∙_}
+use mathlib.Core.Path.{_≡_, refl, ap, _∙_}
 use Prim.Native.Nat.{ℕ, _+_, _-_, _≤_}
 use mathlib.Core.List.{List, _++_, append-assoc}
 use native.Mathlib.Omega.{arith}
 use lib.ListN.{length}
-use Rattle.store.specs.Buffer.{part, splice, le4}
-use Rattle.store.proofs.Parts.{length-part, splice-part}
-use Rattle.store.proofs.Writes.{Write, write, before, after, join, join-before}
+use Rattle.base.specs.Buffer.{splice}
+use Rattle.store.specs.Buffer.{le4}
+use Rattle.base.proofs.Writes.{Write, write, join, all-write}
 use Rattle.store.specs.Layout.{slotBytes}
 
 pub le4-write : (l m : List ℕ) (a v : ℕ) → m ≡ splice l a (le4 v) → a + 4 ≤ length l → Write l m a 4 (le4 v)
 unfolding le4
 le4-write l m a v e h = write l m a 4 (le4 v) e refl h
-
-pub all-write : (l m : List ℕ) (a : ℕ) (s : List ℕ) → m ≡ splice l a s → a + length s ≤ length l → Write l m a (length s) s
-all-write l m a s e h = write l m a (length s) s e refl h
-
--- bytes that stand there already
-stay : (m : List ℕ) (a g : ℕ) (s : List ℕ) → a + g ≤ length m → part a g m ≡ s → Write m m a g s
-stay m a g s h e = write m m a g s (sym (splice-part a g m h) ∙ ap (splice m a) e) (ap length (sym e) ∙ length-part a g m h) h
-
--- of two writes that do not meet either may be the first
-pub commute : (l : List ℕ) (a : ℕ) (s : List ℕ) (b : ℕ) (t : List ℕ) → a + length s ≤ b → b + length t ≤ length l → splice (splice l a s) b t ≡ splice (splice l b t) a s
-commute l a s b t h q =
-    let g : ℕ = b - (a + length s) in
-    let mid : List ℕ = part (a + length s) g l in
-    let p1 = all-write l (splice l a s) a s refl (omega arith) in
-    let pm = stay (splice l a s) (a + length s) g mid (omega (arith, p1 .len)) (after p1 (a + length s) g (omega arith) (omega arith)) in
-    let p2 = all-write (splice l a s) (splice (splice l a s) b t) b t refl (omega (arith, p1 .len)) in
-    let q1 = all-write l (splice l b t) b t refl q in
-    let qm = stay (splice l b t) (a + length s) g mid (omega (arith, q1 .len)) (before q1 (a + length s) g (omega arith)) in
-    let q2 = all-write (splice l b t) (splice (splice l b t) a s) a s refl (omega (arith, q1 .len)) in
-    join b (length t) (join (a + length s) g p1 pm refl) p2 (omega arith) .is ∙ ap (splice l a) (append-assoc s mid t)
-    ∙ sym (join-before a (length s) (join-before (a + length s) g q1 qm (omega arith)) q2 refl .is)
 
 pub put-slot-is : (l m1 m2 m3 m4 m5 m6 : List ℕ) (at o a b c d t : ℕ) → at + 24 ≤ length l
     → m1 ≡ splice l at (le4 o) → m2 ≡ splice m1 (at + 4) (le4 a) → m3 ≡ splice m2 (at + 8) (le4 b) → m4 ≡ splice m3 (at + 12) (le4 c)

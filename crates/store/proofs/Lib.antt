@@ -1,8 +1,4 @@
-pub mod Parts
-pub mod Copies
 pub mod Numbers
-pub mod Writes
-pub mod Blocks
 pub mod Joined
 pub mod Tabulated
 pub mod Sums

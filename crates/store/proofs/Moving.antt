@@ -7,12 +7,13 @@ use mathlib.Core.List.{List}
 use native.Mathlib.Omega.{arith}
 use native.Mathlib.Nat.{add-zero}
 use lib.ListN.{length}
-use Rattle.store.specs.Buffer.{part, num4, le4}
+use Rattle.base.specs.Buffer.{part}
+use Rattle.store.specs.Buffer.{num4, le4}
 use Rattle.store.specs.Layout.{heapStart, formatOf, capOf, countOf, usedOf, endOf, slotAt, slotOf, offOf, sizeOf}
 use Rattle.store.specs.Rows.{rowAt, rowsOf, tabulate, total}
 use Rattle.store.specs.Packages.{Sound, Apart}
-use Rattle.store.proofs.Numbers.{num4-part, num4-le4}
-use Rattle.store.proofs.Writes.{Write, before, after, within, num-within, num-before, num-after, part-part}
+use Rattle.store.proofs.Numbers.{num4-part, num4-le4, num-within, num-before, num-after}
+use Rattle.base.proofs.Writes.{Write, before, after, within, part-part}
 use Rattle.store.proofs.Headers.{kind-same}
 use Rattle.store.proofs.RowPlaces.{three, Like, row-moved, row-same}
 use Rattle.store.proofs.Tabulated.{tabulate-same}

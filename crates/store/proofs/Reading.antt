@@ -5,7 +5,8 @@ use Prim.Native.Nat.{ℕ, zero, suc, _+_, _-_, _^_, _≤_, _<_}
 use mathlib.Core.List.{List}
 use native.Mathlib.Omega.{arith}
 use lib.ListN.{length, take, drop, length-take, length-drop}
-use Rattle.store.specs.Buffer.{part, num4}
+use Rattle.base.specs.Buffer.{part}
+use Rattle.store.specs.Buffer.{num4}
 use Rattle.store.specs.Layout.{heapStart, countOf, slotOf}
 use Rattle.store.specs.Rows.{Row, rowOf, rowAt, tagAt, fieldOf}
 use Rattle.store.specs.Packages.{Sound}

@@ -6,13 +6,15 @@ use Prim.Native.Nat.{ℕ, suc, _+_, _-_, _*_, _≤_, _<_, _^_}
 use mathlib.Core.List.{List, _++_}
 use native.Mathlib.Omega.{arith}
 use lib.ListN.{length, getD}
-use Rattle.store.specs.Buffer.{part, splice, le4}
+use Rattle.base.specs.Buffer.{part, splice}
+use Rattle.store.specs.Buffer.{le4}
 use Rattle.store.specs.Layout.{heapStart, formatOf, capOf, countOf, usedOf, endOf, slotAt, slotOf, offOf, sizeOf}
 use Rattle.store.specs.Rows.{noRow, rowAt, rowsOf, rowSize, tabulate, removeAt, total}
 use Rattle.store.specs.Packages.{Sound, Removed}
 use Rattle.store.specs.Places.{EndWithout}
-use Rattle.store.proofs.Parts.{length-part}
-use Rattle.store.proofs.Writes.{Write, write, before, after, within, num-within, num-before, part-part}
+use Rattle.base.proofs.Parts.{length-part}
+use Rattle.base.proofs.Writes.{Write, write, before, after, within, part-part}
+use Rattle.store.proofs.Numbers.{num-within, num-before}
 use Rattle.store.proofs.Headers.{counts-0, counts-4, counts-8, counts-size, kind-same, rows-count, row-getD}
 use Rattle.store.proofs.RowPlaces.{three, row-same, row-size}
 use Rattle.store.proofs.Tabulated.{tabulate-remove, total-remove}

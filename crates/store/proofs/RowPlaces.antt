@@ -6,11 +6,12 @@ use Prim.Native.Nat.{ℕ, zero, suc, _+_, _≤_, _<_}
 use mathlib.Core.List.{List}
 use native.Mathlib.Omega.{arith}
 use lib.ListN.{length}
-use Rattle.store.specs.Buffer.{part, num4}
+use Rattle.base.specs.Buffer.{part}
+use Rattle.store.specs.Buffer.{num4}
 use Rattle.store.specs.Layout.{heapStart, countOf, slotOf, offOf, sizeOf}
 use Rattle.store.specs.Rows.{rowOf, rowAt, sizeAt, rowSize}
 use Rattle.store.specs.Packages.{Sound}
-use Rattle.store.proofs.Parts.{length-part}
+use Rattle.base.proofs.Parts.{length-part}
 
 pub three : (i r : ℕ) → (i < r) ⊎ ((i ≡ r) ⊎ (r < i))
 three zero zero = inr (inl refl)

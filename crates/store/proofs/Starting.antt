@@ -5,13 +5,14 @@ use Prim.Native.Nat.{ℕ, _+_, _≤_}
 use mathlib.Core.List.{List, [], _∷_, _++_}
 use native.Mathlib.Omega.{arith}
 use lib.ListN.{length, getD}
-use Rattle.store.specs.Buffer.{part, splice, le4}
+use Rattle.base.specs.Buffer.{part, splice}
+use Rattle.store.specs.Buffer.{le4}
 use Rattle.store.specs.Layout.{heapStart, maxCapacity, mark, formatOf, packageFormat, capOf, countOf, usedOf, endOf}
 use Rattle.store.specs.Rows.{rowAt, rowsOf, tabulate, total}
 use Rattle.store.specs.Packages.{Sound}
-use Rattle.store.proofs.Numbers.{num4-le4}
-use Rattle.store.proofs.Parts.{getD-part}
-use Rattle.store.proofs.Writes.{write, before, within, num-within, num-before, part-part}
+use Rattle.store.proofs.Numbers.{num4-le4, num-within, num-before}
+use Rattle.base.proofs.Parts.{getD-part}
+use Rattle.base.proofs.Writes.{write, before, within, part-part}
 use Rattle.store.proofs.Joined.{le4-write}
 use Rattle.store.proofs.Headers.{counts-0, counts-4, counts-8, counts-size}
 

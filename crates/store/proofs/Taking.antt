@@ -6,7 +6,8 @@ use Prim.Native.Nat.{ℕ, _+_, _-_, _≤_, _<_, _^_}
 use mathlib.Core.List.{List}
 use native.Mathlib.Omega.{arith}
 use lib.ListN.{length, getD}
-use Rattle.store.specs.Buffer.{part, splice, le4}
+use Rattle.base.specs.Buffer.{part, splice}
+use Rattle.store.specs.Buffer.{le4}
 use Rattle.store.specs.Layout.{heapStart, countOf, endOf, slotAt, slotOf, offOf, sizeOf}
 use Rattle.store.specs.Packages.{Sound, Gathered}
 use Rattle.store.specs.Places.{Lowest, ByOffset, Settled, Carried, carried}

@@ -4,7 +4,8 @@ use Prim.Native.Nat.{ℕ, _+_, _-_, _*_, _^_, min}
 use Prim.Native.Char.{code}
 use mathlib.Core.List.{List, [], _∷_, _++_}
 use lib.ListN.{length, getD}
-use Rattle.store.specs.Buffer.{part, num4, le4}
+use Rattle.base.specs.Buffer.{part}
+use Rattle.store.specs.Buffer.{num4, le4}
 
 abbrev pub headerSize : ℕ
 headerSize = 64

@@ -7,9 +7,9 @@ use mathlib.Core.List.{List}
 use Prim.Native.Nat.{ℕ, _+_, _≤_, _<_}
 use lib.Dec.{leb, eqb}
 use lib.ListN.{length}
-use Rattle.store.specs.Buffer.{part, num4}
-use Rattle.store.specs.Layout.{slotCount, heapStart, maxCapacity, mark, formatOf, packageFormat}
-use Rattle.store.specs.Layout.{capOf, countOf, usedOf, endOf, slotOf, offOf, sizeOf}
+use Rattle.base.specs.Buffer.{part}
+use Rattle.store.specs.Buffer.{num4}
+use Rattle.store.specs.Layout.{slotCount, heapStart, maxCapacity, mark, formatOf, packageFormat, capOf, countOf, usedOf, endOf, slotOf, offOf, sizeOf}
 use Rattle.store.specs.Rows.{Row, rowsOf, insertAt, removeAt, total}
 
 -- the mark stands at the start: two numbers of four bytes cover its seven

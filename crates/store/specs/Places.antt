@@ -5,7 +5,8 @@ use mathlib.Core.Logic.{_⊎_}
 use mathlib.Core.List.{List}
 use Prim.Native.Nat.{ℕ, _+_, _-_, _^_, _≤_, _<_}
 use lib.ListN.{length, getD}
-use Rattle.store.specs.Buffer.{part, splice, le4}
+use Rattle.base.specs.Buffer.{part, splice}
+use Rattle.store.specs.Buffer.{le4}
 use Rattle.store.specs.Layout.{heapStart, heapSize, formatOf, capOf, countOf, usedOf, endOf, slotAt, slotOf, offOf, sizeOf}
 use Rattle.store.specs.Rows.{rowAt, rowsOf, fieldOf}
 use Rattle.store.specs.Packages.{Sound}

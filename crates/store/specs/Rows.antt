@@ -3,7 +3,8 @@
 use Prim.Native.Nat.{ℕ, zero, suc, _+_}
 use mathlib.Core.List.{List, [], _∷_, _++_}
 use lib.ListN.{length, take, drop}
-use Rattle.store.specs.Buffer.{part, num4}
+use Rattle.base.specs.Buffer.{part}
+use Rattle.store.specs.Buffer.{num4}
 use Rattle.store.specs.Layout.{heapStart, countOf, slotOf, offOf, sizeOf}
 
 -- a row: a number and four byte strings

@@ -2,20 +2,14 @@
 ghost use mathlib.Core.Path.{_≡_};
 ghost use Prim.Native.Nat.{_+_, _^_, _≤_, _<_};
 ghost use lib.ListN.{length, getD};
-ghost use Rattle.store.specs.Buffer.{splice, num4, le4};
+ghost use Rattle.base.specs.Buffer.{splice};
+ghost use Rattle.store.specs.Buffer.{num4, le4};
 
 // A byte as a number.
 pub(crate) fn wide(x: u8) -> usize
     ensures { λ r. ⌜ (r ≡ x) × (r < 256) ⌝ }
 {
     x as usize
-}
-
-// The byte at `at`: 0 past the end.
-pub(crate) fn byte_at(s: &[u8], at: usize) -> u8
-    ensures { λ r. ⌜ r ≡ getD (now (s .entry)) at 0 ⌝ }
-{
-    if at < s.len() { s[at] } else { 0 }
 }
 
 // The little-endian number in the four bytes from `at` on.

@@ -2,7 +2,6 @@
 pub mod bytes;
 pub mod header;
 mod heap;
-pub mod moves;
 mod order;
 pub mod rows;
 mod runs;

@@ -12,7 +12,8 @@ use crate::bytes::put4;
 ghost use mathlib.Core.Path.{_≡_};
 ghost use Prim.Native.Nat.{_+_, _^_, _≤_, _<_};
 ghost use lib.ListN.{length};
-ghost use Rattle.store.specs.Buffer.{splice, num4};
+ghost use Rattle.base.specs.Buffer.{splice};
+ghost use Rattle.store.specs.Buffer.{num4};
 ghost use Rattle.store.specs.Layout.{slotSize, slotCount, heapStart, slotOf, slotBytes, offOf, sizeOf};
 ghost use Rattle.store.specs.Places.{Lowest};
 

@@ -9,8 +9,8 @@ use lib.Dec.{eqb}
 use lib.ListN.{length, length-append}
 use borrow.Author.Tests.{eq-eqb, ne-eqb}
 use Rattle.chars.specs.Bytes.{ascii}
-use Rattle.iri.specs.Scratch.{Sent}
-use Rattle.iri.proofs.Sending.{sent-more}
+use Rattle.output.specs.Sends.{Sent}
+use Rattle.output.proofs.Sending.{sent-more}
 use Rattle.model.specs.Sets.{Bytes}
 use Rattle.model.specs.Package.{Default, Override, Relationship}
 use Rattle.model.specs.Texts.{quoted, defaultLine, overrideLine, modeText, relationshipLine}

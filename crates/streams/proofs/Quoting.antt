@@ -13,8 +13,8 @@ use borrow.Author.Tests.{eqb-true}
 use Rattle.chars.specs.Bytes.{ascii}
 use Rattle.chars.specs.Lists.{firstOf, indexOf}
 use Rattle.chars.proofs.Searches.{index-le}
-use Rattle.iri.specs.Scratch.{Sent}
-use Rattle.iri.proofs.Sending.{sent-more, sent-as}
+use Rattle.output.specs.Sends.{Sent}
+use Rattle.output.proofs.Sending.{sent-more, sent-as}
 use Rattle.model.specs.Sets.{Bytes}
 use Rattle.model.specs.Texts.{ampersand, quotedByte, quoted}
 use Rattle.model.proofs.Joins.{flatMap-append}

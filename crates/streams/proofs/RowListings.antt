@@ -8,8 +8,8 @@ use native.Mathlib.Numerals.{add-one}
 use lib.ListN.{length, take, length-append, length-take, drop-of-length-le}
 use lib.Seq.{slice-cons}
 use Rattle.chars.specs.Bytes.{ascii}
-use Rattle.iri.specs.Scratch.{Sent}
-use Rattle.iri.proofs.Sending.{sent-none, sent-more}
+use Rattle.output.specs.Sends.{Sent}
+use Rattle.output.proofs.Sending.{sent-none, sent-more}
 use Rattle.model.specs.Sets.{Bytes}
 use Rattle.store.specs.Layout.{slotCount, countOf}
 use Rattle.store.specs.Rows.{Row, noRow, rowAt, tagAt, rowsOf, fieldOf}

@@ -6,15 +6,15 @@ use mathlib.Core.Bool.{true}
 use mathlib.Core.List.{List, [], _++_}
 use native.Mathlib.Omega.{arith}
 use lib.ListN.{length}
-use Rattle.iri.specs.Answers.{Answer, ofWritten}
-use Rattle.iri.specs.Answers as iri
-use Rattle.iri.specs.Scratch.{Sent}
-use Rattle.iri.specs.declared.writing.Written.the-variants as written
-use Rattle.iri.proofs.Sending.{sent-more, sent-as, append-none, dry-short, dry-bytes}
+use Rattle.output.specs.Answers.{Answer, ofWritten, Text}
+use Rattle.output.specs.Sends.{Sent}
+use Rattle.output.specs.declared.writing.Written.the-variants as written
+use Rattle.output.proofs.Sending.{sent-more, sent-as, append-none}
+use Rattle.output.proofs.Answering.{dry-short, dry-bytes}
 use Rattle.model.specs.Sets.{Bytes}
 use Rattle.model.specs.Package.{State}
 use Rattle.model.specs.Texts.{declaration}
-use Rattle.model.specs.Calls.{Print, Prints, Text, printed, valueCount}
+use Rattle.model.specs.Calls.{Print, Prints, printed, valueCount}
 use Rattle.model.proofs.Numbers.{numbered, zero-numbered}
 use Rattle.store.specs.Layout.{countOf, usedOf}
 use Rattle.store.specs.Rows.{rowsOf}
@@ -22,7 +22,6 @@ use Rattle.contract.specs.Holds.{Holds}
 use Rattle.contract.specs.Ran.{Ran}
 use Rattle.contract.specs.Opening.{Open}
 use Rattle.contract.proofs.Rans.{wrote}
-use Rattle.parts.proofs.TextAnswers.{text-filled}
 use Rattle.streams.specs.Streams.{linesOf, streamOf, runSize, Listed, Streamed, Answered}
 use Rattle.streams.proofs.RowSizes.{run-used}
 
@@ -53,7 +52,7 @@ module _ (b : List ℕ) (f t : ℕ) (head foot : Bytes) (k : t ≤ countOf b) (u
       kept = λ _. append-none ys out z;
       numbered = numbered 3 (omega arith) (omega arith);
       foreign = λ q. absurd (omega arith);
-      is = λ so. let T = streamOf b f t head foot in dry-short (iri.Text T) T w ys out n refl (x .is so k) z l;
+      is = λ so. let T = streamOf b f t head foot in dry-short (Text T []) T w ys out n refl (x .is so k) z l;
     }
 
     pub answered-bytes : n ≤ length (ys ++ out) → (r : ℕ) (out' : Bytes) → Streamed b f t head foot (ys ++ out) r out' → Answered b f t head foot out (ofWritten (written.Bytes r) out')
@@ -61,11 +60,11 @@ module _ (b : List ℕ) (f t : ℕ) (head foot : Bytes) (k : t ≤ countOf b) (u
       kept = λ q. absurd (q refl);
       numbered = zero-numbered;
       foreign = λ q. absurd (omega arith);
-      is = λ so. let T = streamOf b f t head foot in dry-bytes (iri.Text T) T w ys out n refl (x .is so k) z r out' l (y .is so k);
+      is = λ so. let T = streamOf b f t head foot in dry-bytes (Text T []) T w ys out n refl (x .is so k) z r out' l (y .is so k);
     }
 
 -- such an answer is the ledger's, where the ledger prints the stream
 pub stream-ran : (b : List ℕ) → Open b → (w : Print) → valueCount w ≡ 1 → (out : Bytes) (f t : ℕ) (head foot : Bytes) (a : Answer) → Answered b f t head foot out a
     → ((S : State) → Holds b S → printed S (length out) w ≡ Text (streamOf b f t head foot) []) → Ran (Prints w out) b a b
 stream-ran b o w v out f t head foot a x e =
-    wrote b o w out a (x .numbered) (x .kept) (λ S h. rw (e S h, v) (x .is (h .lies .sound) ∙ text-filled (streamOf b f t head foot) out))
+    wrote b o w out a (x .numbered) (x .kept) (λ S h. rw (e S h, v) (x .is (h .lies .sound)))

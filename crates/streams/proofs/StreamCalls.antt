@@ -10,10 +10,10 @@ use lib.Seq.{slice, take-append-seam}
 use borrow.Author.Tests.{eq-eqb, ne-eqb}
 use Rattle.chars.specs.Bytes.{ascii}
 use Rattle.chars.specs.Folding.{fold}
-use Rattle.iri.specs.Answers.{Answer, answer, ofWritten}
-use Rattle.iri.specs.Targets.{sourceRefusal}
-use Rattle.iri.specs.declared.writing.Written.the-variants.{Refused}
-use Rattle.iri.proofs.Sending.{refusing-is}
+use Rattle.output.specs.Answers.{Answer, answer, ofWritten}
+use Rattle.targets.specs.Targets.{sourceRefusal}
+use Rattle.output.specs.declared.writing.Written.the-variants.{Refused}
+use Rattle.output.proofs.Answering.{refusing-is}
 use Rattle.model.specs.Sets.{Bytes}
 use Rattle.model.specs.Places.{firstWhere, bound}
 use Rattle.model.specs.Package.{Relationship, State, keyOfRelationship}

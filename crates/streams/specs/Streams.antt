@@ -6,8 +6,8 @@ use mathlib.Core.Path.{_≡_}
 use mathlib.Core.List.{List, _++_, flatMap}
 use lib.ListN.{length}
 use lib.Seq.{slice}
-use Rattle.iri.specs.Answers.{Answer, Text, written}
-use Rattle.iri.specs.Scratch.{Sent}
+use Rattle.output.specs.Answers.{Answer, Text, written}
+use Rattle.output.specs.Sends.{Sent}
 use Rattle.model.specs.Sets.{Bytes}
 use Rattle.model.specs.Texts.{declaration}
 use Rattle.model.specs.Calls.{Numbered}
@@ -76,4 +76,4 @@ pub record Answered (b : List ℕ) (f t : ℕ) (head foot : Bytes) (out : List �
   pub kept : (a .number ≡ 0 → ⊥) → a .output ≡ out
   pub numbered : Numbered (a .number)
   pub foreign : usedOf b < runSize b f t → a .number ≡ 13
-  pub is : Sound b → a ≡ written (Text (streamOf b f t head foot)) out
+  pub is : Sound b → a ≡ written (Text (streamOf b f t head foot) []) out

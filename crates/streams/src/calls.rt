@@ -5,9 +5,9 @@ use contract::RELATIONSHIPS;
 use contract::gate::opened;
 use contract::search::bound;
 use contract::search::set_start;
-use iri::targets::source_refusal;
-use iri::writing::Written;
-ghost use Rattle.iri.specs.Answers.{ofWritten};
+use output::writing::Written;
+use targets::targets::source_refusal;
+ghost use Rattle.output.specs.Answers.{ofWritten};
 ghost use Rattle.model.specs.Calls.{Call, Print};
 ghost use Rattle.contract.specs.Ran.{Ran};
 

@@ -1,12 +1,12 @@
 // The lines of an XML stream. Each function sends its text to a place of the output and says the next place, whether it fits or not.
 use chars::search::find;
 use contract::EXTERNAL_TAG;
-use iri::writing::emit;
+use output::writing::emit;
 ghost use mathlib.Core.List.{_++_};
 ghost use Prim.Native.Nat.{_^_, _≤_, _<_};
 ghost use lib.ListN.{length};
 ghost use Rattle.chars.specs.Bytes.{ascii};
-ghost use Rattle.iri.specs.Scratch.{Sent};
+ghost use Rattle.output.specs.Sends.{Sent};
 ghost use Rattle.model.specs.Texts.{quoted};
 ghost use Rattle.streams.specs.EntryLines.{typeText, modeEnd, relationshipText};
 

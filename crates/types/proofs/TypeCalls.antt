@@ -9,7 +9,7 @@ use lib.ListN.{length}
 use borrow.Author.Tests.{not-true, not-false}
 use Rattle.names.specs.Names.{partName}
 use Rattle.names.specs.Types.{extension, mediaType}
-use Rattle.iri.specs.Answers.{Answer}
+use Rattle.output.specs.Answers.{Answer}
 use Rattle.model.specs.Sets.{Bytes, Key, held, lookup, insert, remove}
 use Rattle.model.specs.Fields.{when, first, typeField, defaultFields, overrideFields}
 use Rattle.model.specs.Package.{State, Default, Override, defaultLimit, overrideLimit, nameKey, keyOfDefault, keyOfOverride}
@@ -24,7 +24,7 @@ use Rattle.contract.specs.Entries.{Entered, Dropped}
 use Rattle.contract.specs.Ran.{Ran}
 use Rattle.contract.specs.Opening.{Open}
 use Rattle.contract.proofs.Rans.{ran-changed, field-refused}
-use Rattle.contract.proofs.FieldSizes.{extension-some, name-some}
+use Rattle.names.proofs.Lengths.{extension-some, name-some}
 use Rattle.contract.proofs.FirstRefusals.{first-met, first-unmet, first-one}
 use Rattle.contract.proofs.SetStates.{Among, defaults-among, overrides-among, default-slot, override-slot, drop-step, put-step}
 

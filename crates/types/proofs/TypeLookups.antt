@@ -11,9 +11,9 @@ use lib.ListN.{length, take, drop, length-drop}
 use borrow.Author.Tests.{not-true, not-false, eq-eqb, ne-eqb}
 use Rattle.chars.specs.Bytes.{dot, slash}
 use Rattle.chars.specs.Lists.{afterLast}
-use Rattle.chars.proofs.Searches.{take-rest, last-le}
-use Rattle.iri.specs.Answers.{Answer, answer, written}
-use Rattle.iri.specs.Answers as iri
+use Rattle.base.proofs.Lists.{take-rest}
+use Rattle.chars.proofs.Searches.{last-le}
+use Rattle.output.specs.Answers.{Answer, answer, written, Text}
 use Rattle.names.specs.Names.{partName, lastSegment, extensionAt}
 use Rattle.model.specs.Sets.{Bytes, lookup}
 use Rattle.model.specs.Fields.{first}
@@ -121,7 +121,7 @@ module _ (b : List ℕ) (o : Open b) (name out : Bytes) (q : Bool) (eq : q ≡ p
       unfolding printed first
       type-none l = text-refused b o (MediaType name) refl out 14 (numbered 14 (omega arith) (omega arith)) (λ S h. rw (← eq, not-false q hq, ← ey .is S h, not-false y hy, t .missing S h (omega arith)))
 
-      pub type-written : r < m → (s : Bytes) → (Sound b → r < countOf b → s ≡ fieldOf (rowAt b r) 1) → (a : Answer) → a ≡ written (iri.Text s) out → Ran (Prints (MediaType name) out) b a b
+      pub type-written : r < m → (s : Bytes) → (Sound b → r < countOf b → s ≡ fieldOf (rowAt b r) 1) → (a : Answer) → a ≡ written (Text s []) out → Ran (Prints (MediaType name) out) b a b
       unfolding printed first
       type-written l s es a ea =
           text-answered b o (MediaType name) refl out s a ea

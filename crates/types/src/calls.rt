@@ -1,10 +1,10 @@
 // The calls on Defaults and Overrides.
+use contract::DEFAULTS;
 use contract::DEFAULT_LIMIT;
 use contract::DEFAULT_TAG;
-use contract::DEFAULTS;
+use contract::OVERRIDES;
 use contract::OVERRIDE_LIMIT;
 use contract::OVERRIDE_TAG;
-use contract::OVERRIDES;
 use contract::answers::Did;
 use contract::entries::drop_row;
 use contract::entries::put_row;

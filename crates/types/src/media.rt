@@ -3,14 +3,14 @@ use contract::DEFAULTS;
 use contract::OVERRIDES;
 use contract::entries::locate;
 use contract::gate::opened;
-use iri::writing::Written;
 use names::parts::extension_at;
 use names::parts::is_part_name;
-use parts::copying::put_all;
+use output::writing::Written;
+use output::writing::put_text;
 use parts::runs::is_part;
 use store::header::count;
 use store::rows::field;
-ghost use Rattle.iri.specs.Answers.{ofWritten};
+ghost use Rattle.output.specs.Answers.{ofWritten};
 ghost use Rattle.model.specs.Calls.{Call, Print};
 ghost use Rattle.store.specs.Packages.{Shape};
 ghost use Rattle.contract.specs.Ran.{Ran};
@@ -49,7 +49,7 @@ pub fn media_type(pkg: &[u8], name: &[u8], out: &mut [u8]) -> Written
     }
     let r = type_row(pkg, name);
     if r < count(pkg) {
-        return put_all(field(pkg, r, 1), out);
+        return put_text(field(pkg, r, 1), out);
     }
     Written::Refused(14)
 }

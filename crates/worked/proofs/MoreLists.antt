@@ -6,14 +6,14 @@ use mathlib.Core.List.{List, [], _∷_, _++_}
 use native.Mathlib.Omega.{arith}
 use lib.ListN.{length, getD, take, drop}
 use lib.Seq.{take-all}
-use borrow.Author.Tests.{le-leb}
 use Rattle.chars.specs.Bytes.{ascii}
-use Rattle.iri.specs.Answers.{Answer, answer, ofWritten}
-use Rattle.iri.specs.declared.writing.Written.{Written}
-use Rattle.iri.specs.declared.writing.Written.the-variants as written
+use Rattle.output.specs.Answers.{Answer, answer, ofWritten, Text, filled}
+use Rattle.output.specs.declared.writing.Written.{Written}
+use Rattle.output.specs.declared.writing.Written.the-variants as written
+use Rattle.output.proofs.Answering.{filled-fits}
 use Rattle.model.specs.Sets.{Bytes}
 use Rattle.model.specs.Package.{empty}
-use Rattle.model.specs.Calls.{Call, Looks, Changes, Prints, View, Totals, PutItem, DropItem, PutDefault, DropDefault, PutOverride, DropOverride, PutRelationship, DropRelationship, PartAt, ReadPart, MediaType, WriteRelationships, Text, printed, filled, done, answers, after}
+use Rattle.model.specs.Calls.{Call, Looks, Changes, Prints, View, Totals, PutItem, DropItem, PutDefault, DropDefault, PutOverride, DropOverride, PutRelationship, DropRelationship, PartAt, ReadPart, MediaType, WriteRelationships, printed, done, answers, after}
 use Rattle.model.specs.Opened.{everything}
 use Rattle.contract.specs.Answers.{ofTotalled}
 use Rattle.contract.specs.declared.answers.Totalled.{Totalled}
@@ -22,8 +22,7 @@ use Rattle.worked.specs.Last.{wrote, typedAs, joinedFrom, linkedText}
 
 -- an output that suffices takes the text
 wrote-fits : (t out : Bytes) → length t ≤ length out → filled 1 out (Text t []) ≡ wrote t out
-unfolding filled
-wrote-fits t out h = rw (le-leb (length t) (length out) h)
+wrote-fits t out h = filled-fits 1 out t [] h
 
 -- what then stands in the output
 pub wrote-output : (r : Written) (t o out : Bytes) → 0 < length t → ofWritten r o ≡ wrote t out → o ≡ t ++ drop (length t) out

@@ -3,20 +3,21 @@
 use Prim.Native.Nat.{ℕ, zero, suc, _≤_, _<_}
 use mathlib.Core.Path.{_≡_, refl, ap, sym, _∙_}
 use mathlib.Core.Bool.{true}
-use mathlib.Core.List.{List, [], _∷_}
+use mathlib.Core.List.{List, [], _∷_, _++_}
 use native.Mathlib.Omega.{arith}
-use lib.ListN.{length, getD, take, replicate}
+use lib.ListN.{length, getD, take, drop, replicate}
 use borrow.Author.Tests.{le-leb, eqb-true}
 use Rattle.chars.specs.Bytes.{ascii}
 use Rattle.names.specs.Iris.{packageIri}
-use Rattle.iri.specs.Answers.{Answer, answer, ofWritten, writtenWhere}
-use Rattle.iri.specs.Pack.{unfragmented, packIri, partOrRoot, compose, partOf, Found, resolvePack, ofResolved, located}
-use Rattle.iri.specs.Demand.{composing, resolving, bytesWritten}
-use Rattle.iri.specs.declared.writing.Written.{Written}
-use Rattle.iri.specs.declared.writing.Written.the-variants.{Bytes, Short, Refused}
-use Rattle.iri.specs.declared.pack.Resolved.{Resolved}
-use Rattle.iri.specs.declared.pack.Resolved.the-variants as resolved
-use Rattle.iri.proofs.PackIris.{every-pack-iri}
+use Rattle.output.specs.Answers.{Answer, answer, ofWritten}
+use Rattle.output.proofs.Answering.{filled-fits}
+use Rattle.pack.specs.Pack.{unfragmented, packIri, partOrRoot, compose, partOf, Found, resolvePack, ofResolved, located}
+use Rattle.pack.specs.Demand.{composing, resolving, bytesWritten}
+use Rattle.output.specs.declared.writing.Written.{Written}
+use Rattle.output.specs.declared.writing.Written.the-variants.{Bytes, Short, Refused}
+use Rattle.pack.specs.declared.pack.Resolved.{Resolved}
+use Rattle.pack.specs.declared.pack.Resolved.the-variants as resolved
+use Rattle.pack.proofs.PackIris.{every-pack-iri}
 use Rattle.model.specs.Opened.{everything}
 
 some : (base name : List ℕ) → 0 < length (packIri base name)
@@ -24,7 +25,7 @@ unfolding packIri
 some base name = omega arith
 
 -- the answer of a call that wrote a text
-only-bytes : (w : Written) (t out out' : List ℕ) → 0 < length t → ofWritten w out' ≡ writtenWhere true t out → w ≡ Bytes (length t)
+only-bytes : (w : Written) (t out out' : List ℕ) → 0 < length t → ofWritten w out' ≡ answer 0 (length t ∷ []) (t ++ drop (length t) out) → w ≡ Bytes (length t)
 only-bytes (Bytes n) t out out' h e = ap Bytes (ap (λ (a : Answer). getD (a .values) 0 0) e)
 only-bytes (Short n) t out out' h e = absurd (omega (arith, ap (λ (a : Answer). a .number) e))
 only-bytes (Refused zero) t out out' h e = absurd (omega (arith, ap (λ (a : Answer). getD (a .values) 0 0) e))
@@ -40,7 +41,7 @@ case (Refused k) = 2
 module _ (base name out : List ℕ) (p : packageIri base ≡ true) (n : partOrRoot name ≡ true) (l : length (packIri base name) ≤ length out) where
   composed-bytes : (w : Written) (out' : List ℕ) → ofWritten w out' ≡ composing base name out → w ≡ Bytes (length (packIri base name))
   unfolding compose
-  composed-bytes w out' e = only-bytes w (packIri base name) out out' (some base name) (e ∙ rw (p, n, le-leb _ _ l))
+  composed-bytes w out' e = only-bytes w (packIri base name) out out' (some base name) (e ∙ rw (p, n) (filled-fits 1 out (packIri base name) [] l))
 
   pub never-short : (w : Written) (m : ℕ) (out' : List ℕ) → ofWritten w out' ≡ composing base name out → w ≡ Short m → ⊥
   never-short w m out' e s = omega (arith, ap case (sym s ∙ composed-bytes w out' e))

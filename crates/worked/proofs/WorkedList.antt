@@ -8,10 +8,11 @@ use native.Mathlib.Omega.{arith}
 use lib.ListN.{length, getD, drop}
 use borrow.Author.Tests.{le-ltb, le-leb}
 use Rattle.chars.specs.Bytes.{ascii}
-use Rattle.iri.specs.Answers.{Answer, answer}
+use Rattle.output.specs.Answers.{Answer, answer, Text, filled}
+use Rattle.output.proofs.Answering.{filled-fits}
 use Rattle.model.specs.Sets.{Bytes}
 use Rattle.model.specs.Package.{empty}
-use Rattle.model.specs.Calls.{Call, Start, Looks, Changes, Prints, Find, PutItem, PutDefault, PutRelationship, Print, WriteTypes, ResolveRelationship, Text, printed, filled, done, startRefusal, answers, after}
+use Rattle.model.specs.Calls.{Call, Start, Looks, Changes, Prints, Find, PutItem, PutDefault, PutRelationship, Print, WriteTypes, ResolveRelationship, printed, done, startRefusal, answers, after}
 use Rattle.model.specs.Opened.{everything}
 use Rattle.contract.specs.Answers.{ofFound}
 use Rattle.contract.specs.declared.answers.Found.{Found}
@@ -63,14 +64,10 @@ led-printed : (room size : ℕ) (types : Bytes) → printed (after room (empty 2
 unfolding everything
 led-printed room size types = refl
 
-filled-fits : (t out : Bytes) (values : List ℕ) → length t ≤ length out → filled 3 out (Text t values) ≡ answer 0 (length t ∷ values) (t ++ drop (length t) out)
-unfolding filled
-filled-fits t out values h = rw (le-leb (length t) (length out) h)
-
 -- the ledger's answer to the last call
 pub led-last : (room : ℕ) (types out : Bytes) → 48 ≤ length out → getD (answers room (empty 200) (leading types ++ Prints led out ∷ [])) 4 done ≡ ledTo out
 unfolding answers after
-led-last room types out h = ap (filled 3 out) (led-printed room (length out) types) ∙ filled-fits ledText out (0 ∷ 1 ∷ []) h
+led-last room types out h = ap (filled 3 out) (led-printed room (length out) types) ∙ filled-fits 3 out ledText (0 ∷ 1 ∷ []) h
 
 -- the last byte of what was written
 output-is : (r : Resolution) (o : Bytes) → (ofResolution r o) .number ≡ 0 → (ofResolution r o) .output ≡ o

@@ -4,7 +4,7 @@ use mathlib.Core.List.{List, [], _∷_, _++_}
 use Prim.Native.Nat.{ℕ}
 use lib.ListN.{length, drop}
 use Rattle.chars.specs.Bytes.{ascii}
-use Rattle.iri.specs.Answers.{Answer, answer}
+use Rattle.output.specs.Answers.{Answer, answer}
 use Rattle.model.specs.Texts.{line}
 
 -- "M from `/foo/test.xml` in `http://www.example.com/ex.opc`, `b.xml` gives `pack://http%3A,,www.example.com,ex.opc/foo/b.xml`"

@@ -1,15 +1,15 @@
 // Worked lists of calls: what the last one answers follows from the theorem over every list. Every call of the ledger stands in one of them.
 use contract::answers::Found;
 use contract::answers::Totalled;
-use iri::pack::Resolved;
-use iri::pack::compose;
-use iri::pack::resolve_pack;
-use iri::writing::Written;
 use items::calls::drop_item;
 use items::calls::find_item;
 use items::calls::put_item;
 use items::calls::start;
 use items::calls::view_item;
+use output::writing::Written;
+use pack::pack::Resolved;
+use pack::pack::compose;
+use pack::pack::resolve_pack;
 use parts::positions::part_at;
 use parts::reading::read_part;
 use parts::totals::totals;
@@ -30,8 +30,8 @@ ghost use Prim.Native.Nat.{_≤_};
 ghost use lib.ListN.{length};
 ghost use Rattle.chars.specs.Bytes.{ascii};
 ghost use Rattle.names.specs.Iris.{packageIri};
-ghost use Rattle.iri.specs.Answers.{ofWritten};
-ghost use Rattle.iri.specs.Pack.{unfragmented, packIri, partOrRoot, partOf, Found as FoundAt, ofResolved, located};
+ghost use Rattle.output.specs.Answers.{ofWritten};
+ghost use Rattle.pack.specs.Pack.{unfragmented, packIri, partOrRoot, partOf, Found as FoundAt, ofResolved, located};
 ghost use Rattle.relationships.specs.Resolutions.{ofResolution};
 ghost use Rattle.worked.specs.Last.{ledTo, wrote, typedAs, joinedFrom, linkedText};
 

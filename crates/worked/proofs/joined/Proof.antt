@@ -2,7 +2,7 @@ use native.Mathlib.Omega.{arith}
 use mathlib.Core.Path.{ap, _∙_}
 use mathlib.Core.List.{List}
 use lib.ListN.{getD}
-use Rattle.iri.specs.Answers.{Answer}
+use Rattle.output.specs.Answers.{Answer}
 use Rattle.model.specs.Calls.{done}
 use Rattle.contract.specs.Ran.{none, more}
 use Rattle.package.proofs.EveryRun.{every-run}

@@ -1,4 +1,4 @@
-use Rattle.iri.specs.Pack.{compose}
+use Rattle.pack.specs.Pack.{compose}
 use Rattle.abi.proofs.Handing.{written-handed}
 use borrow.Author.Needs.{needs}
 use Rattle.abi.proofs.iris.opc_compose_pack_iri.Statement.{statement}

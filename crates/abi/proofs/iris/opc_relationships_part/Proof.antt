@@ -1,4 +1,4 @@
-use Rattle.iri.specs.Relationships.{relationshipsPart}
+use Rattle.targets.specs.Relationships.{relationshipsPart}
 use Rattle.abi.proofs.Handing.{written-handed}
 use borrow.Author.Needs.{needs}
 use Rattle.abi.proofs.iris.opc_relationships_part.Statement.{statement}

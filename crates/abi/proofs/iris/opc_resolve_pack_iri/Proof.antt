@@ -1,4 +1,4 @@
-use Rattle.iri.specs.Pack.{resolvePack}
+use Rattle.pack.specs.Pack.{resolvePack}
 use Rattle.abi.proofs.Handing.{located-handed}
 use borrow.Author.Needs.{needs}
 use Rattle.abi.proofs.iris.opc_resolve_pack_iri.Statement.{statement}

@@ -1,4 +1,4 @@
-use Rattle.iri.specs.Targets.{resolveReference}
+use Rattle.iri.specs.References.{resolveReference}
 use Rattle.abi.proofs.Handing.{written-handed}
 use borrow.Author.Needs.{needs}
 use Rattle.abi.proofs.iris.opc_resolve_reference.Statement.{statement}

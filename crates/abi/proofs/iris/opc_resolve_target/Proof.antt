@@ -1,4 +1,4 @@
-use Rattle.iri.specs.Targets.{resolveTarget}
+use Rattle.targets.specs.Targets.{resolveTarget}
 use Rattle.abi.proofs.Handing.{written-handed}
 use borrow.Author.Needs.{needs}
 use Rattle.abi.proofs.iris.opc_resolve_target.Statement.{statement}

@@ -1,4 +1,4 @@
-use Rattle.iri.specs.Relationships.{sourcePart}
+use Rattle.targets.specs.Relationships.{sourcePart}
 use Rattle.abi.proofs.Handing.{written-handed}
 use borrow.Author.Needs.{needs}
 use Rattle.abi.proofs.iris.opc_source_of_relationships_part.Statement.{statement}

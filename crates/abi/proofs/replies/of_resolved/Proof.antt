@@ -1,7 +1,7 @@
 use mathlib.Core.Path.{refl, ap}
 use mathlib.Core.List.{[], _∷_}
-use Rattle.iri.specs.Pack.{ofResolved}
-use Rattle.iri.specs.declared.pack.Resolved.{Resolved}
+use Rattle.pack.specs.Pack.{ofResolved}
+use Rattle.pack.specs.declared.pack.Resolved.{Resolved}
 use Rattle.abi.proofs.Handing.{hands, hands-refusal}
 use borrow.Author.Needs.{needs}
 use Rattle.abi.proofs.replies.of_resolved.Statement.{statement}

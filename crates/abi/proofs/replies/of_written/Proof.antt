@@ -1,7 +1,7 @@
 use mathlib.Core.Path.{refl, ap}
 use mathlib.Core.List.{[], _∷_}
-use Rattle.iri.specs.Answers.{ofWritten}
-use Rattle.iri.specs.declared.writing.Written.{Written}
+use Rattle.output.specs.Answers.{ofWritten}
+use Rattle.output.specs.declared.writing.Written.{Written}
 use Rattle.abi.proofs.Handing.{hands, hands-refusal}
 use borrow.Author.Needs.{needs}
 use Rattle.abi.proofs.replies.of_written.Statement.{statement}

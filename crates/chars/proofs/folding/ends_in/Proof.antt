@@ -1,6 +1,6 @@
 use borrow.Author.Tests.{le-leb, lt-leb}
 use Rattle.chars.specs.Folding.{endsIn}
-use Rattle.chars.proofs.Searches.{take-rest}
+use Rattle.base.proofs.Lists.{take-rest}
 use borrow.Author.Needs.{needs}
 use Rattle.chars.proofs.folding.ends_in.Statement.{statement}
 use Rattle.chars.proofs.folding.ends_in.Tie as tie

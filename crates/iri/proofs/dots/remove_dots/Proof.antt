@@ -6,7 +6,7 @@ use lib.Seq.{length-take-le}
 use borrow.Author.Needs.{needs}
 use Rattle.iri.specs.References.{removeDotSegments}
 use Rattle.iri.proofs.DotTurns.{whole, whole-all, fits-skip, after-skip, root-done, done, after-root, fits-up, chop-le, after-up, after-up-root, after-finish, fits-copy, after-copy, whole-none}
-use Rattle.iri.proofs.Lists.{length-part-le, length-take-few}
+use Rattle.base.proofs.Lists.{length-part-le, length-take-few}
 use Rattle.iri.proofs.dots.remove_dots.Statement.{statement}
 use Rattle.iri.proofs.dots.remove_dots.Tie as tie
 

@@ -1,7 +1,7 @@
 use native.Mathlib.Omega.{arith}
 use borrow.Author.Needs.{needs}
 use Rattle.chars.specs.Bytes.{slash}
-use Rattle.iri.proofs.Lists.{length-take-le-length}
+use Rattle.base.proofs.Lists.{length-take-le-length}
 use Rattle.iri.proofs.Merging.{merge-absolute, merge-empty, last-length, merge-folder}
 use Rattle.iri.proofs.references.merge.Statement.{statement}
 use Rattle.iri.proofs.references.merge.Tie as tie

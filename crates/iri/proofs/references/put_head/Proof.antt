@@ -2,8 +2,8 @@ use mathlib.Core.Path.{sym}
 use native.Mathlib.Omega.{arith}
 use lib.Seq.{length-take-le}
 use borrow.Author.Needs.{needs}
-use Rattle.iri.proofs.Lists.{length-take-le-length}
-use Rattle.iri.proofs.Sending.{sent-as, sent-more}
+use Rattle.base.proofs.Lists.{length-take-le-length}
+use Rattle.output.proofs.Sending.{sent-as, sent-more}
 use Rattle.iri.proofs.Transforms.{reference-authority-le, head-own, base-scheme-le, head-authority, base-authority-le, head-base}
 use Rattle.iri.proofs.references.put_head.Statement.{statement}
 use Rattle.iri.proofs.references.put_head.Tie as tie

@@ -2,8 +2,8 @@ use mathlib.Core.Path.{sym}
 use native.Mathlib.Omega.{arith}
 use lib.Seq.{length-take-le}
 use Rattle.iri.specs.References.{resolve}
-use Rattle.iri.proofs.Lists.{length-take-few}
-use Rattle.iri.proofs.Sending.{fitted-none, fitted-sent}
+use Rattle.base.proofs.Lists.{length-take-few}
+use Rattle.output.proofs.Sending.{fitted-none, fitted-sent}
 use borrow.Author.Needs.{needs}
 use Rattle.iri.proofs.references.put_reference.Statement.{statement}
 use Rattle.iri.proofs.references.put_reference.Tie as tie

@@ -1,7 +1,7 @@
 use mathlib.Core.Path.{_∙_, sym}
 use borrow.Author.Needs.{needs}
-use Rattle.chars.proofs.Searches.{take-rest}
-use Rattle.iri.proofs.Sending.{sent-as, sent-more}
+use Rattle.base.proofs.Lists.{take-rest}
+use Rattle.output.proofs.Sending.{sent-as, sent-more}
 use Rattle.iri.proofs.Transforms.{tail-base, tail-own}
 use Rattle.iri.proofs.references.put_tail.Statement.{statement}
 use Rattle.iri.proofs.references.put_tail.Tie as tie

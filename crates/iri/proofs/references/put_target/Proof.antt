@@ -1,7 +1,7 @@
 use mathlib.Core.Path.{_∙_}
 use native.Mathlib.Omega.{arith}
 use borrow.Author.Needs.{needs}
-use Rattle.iri.proofs.Sending.{sent-as, sent-more}
+use Rattle.output.proofs.Sending.{sent-as, sent-more}
 use Rattle.iri.proofs.Transforms.{head-few, resolve-append}
 use Rattle.iri.proofs.references.put_target.Statement.{statement}
 use Rattle.iri.proofs.references.put_target.Tie as tie

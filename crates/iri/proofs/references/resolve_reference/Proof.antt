@@ -1,7 +1,7 @@
-use Rattle.iri.specs.References.{resolve}
-use Rattle.iri.specs.Targets.{resolveReference}
-use Rattle.iri.proofs.Sending.{answer-refused, fitted-short, fitted-bytes}
+use Rattle.iri.specs.References.{resolve, resolveReference}
+use Rattle.output.proofs.Answering.{answer-refused, fitted-short, fitted-bytes}
 use Rattle.iri.proofs.Transforms.{reference-base, reference-no, reference-text, judged-few}
+use mathlib.Core.List.{[]}
 use native.Mathlib.Omega.{arith}
 use borrow.Author.Needs.{needs}
 use Rattle.iri.proofs.references.resolve_reference.Statement.{statement}
@@ -43,7 +43,7 @@ returns-3 c =
     let at-if1 = at-is-iri .before in
     let at-is-package-iri = at-if1 .before in
     let args = at-is-package-iri .before .before .before .before .args in
-    fitted-short (resolveReference (args .base .now) (args .reference .now)) (resolve (args .base .now) (args .reference .now))
+    fitted-short 1 (resolveReference (args .base .now) (args .reference .now)) (resolve (args .base .now) (args .reference .now)) []
     (args .out .now) _ _ (reference-text (args .base .now) (args .reference .now) _ (at-is-package-iri .is-package-iri .ensures)
     (at-if1 .if1 .left) _ (at-is-iri .is-iri .ensures) (at-if2 .if2 .left)) (at-put-reference .put-reference .ensures)
     (at-put-reference .put-reference .kept .1 .1 .0) (c .if3 .taken)
@@ -56,7 +56,7 @@ returns-4 c =
     let at-if1 = at-is-iri .before in
     let at-is-package-iri = at-if1 .before in
     let args = at-is-package-iri .before .before .before .before .args in
-    fitted-bytes (resolveReference (args .base .now) (args .reference .now)) (resolve (args .base .now) (args .reference .now))
+    fitted-bytes 1 (resolveReference (args .base .now) (args .reference .now)) (resolve (args .base .now) (args .reference .now)) []
     (args .out .now) _ _ (reference-text (args .base .now) (args .reference .now) _ (at-is-package-iri .is-package-iri .ensures)
     (at-if1 .if1 .left) _ (at-is-iri .is-iri .ensures) (at-if2 .if2 .left)) (at-put-reference .put-reference .ensures)
     (at-put-reference .put-reference .kept .1 .1 .0) (c .if3 .left)

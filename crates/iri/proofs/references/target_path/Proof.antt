@@ -3,7 +3,7 @@ use mathlib.Core.Path.{sym}
 use native.Mathlib.Omega.{arith}
 use lib.Seq.{length-take-le}
 use borrow.Author.Needs.{needs}
-use Rattle.iri.proofs.Lists.{length-part-le, length-take-le-length}
+use Rattle.base.proofs.Lists.{length-part-le, length-take-le-length}
 use Rattle.iri.proofs.Transforms.{went-own, went-base, reference-path-le, went-merged}
 use Rattle.iri.proofs.references.target_path.Statement.{statement}
 use Rattle.iri.proofs.references.target_path.Tie as tie

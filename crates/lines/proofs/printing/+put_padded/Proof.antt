@@ -8,7 +8,7 @@ use borrow.Fn.PlainCycle.{Measures, is, falls, and}
 use Rattle.lines.proofs.printing.put_padded.Reads as put-padded
 use Rattle.lines.proofs.printing.put_padded.Kinds as put-padded-kinds
 use Rattle.lines.proofs.printing.+put_padded.Lts-put_padded as put-padded-lts
-use Rattle.iri.proofs.writing.emit.Reads as emit-reads
+use Rattle.output.proofs.writing.emit.Reads as emit-reads
 use Rattle.lines.proofs.printing.cell.Reads as cell-reads
 use Rattle.lines.proofs.printing.+put_padded.{statement}
 use Rattle.lines.proofs.printing.+put_padded.Tie.{close}

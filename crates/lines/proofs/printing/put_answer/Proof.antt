@@ -1,6 +1,6 @@
 use native.Mathlib.Omega.{arith}
 use Rattle.chars.specs.Bytes.{ascii}
-use Rattle.iri.proofs.Sending.{sent-more}
+use Rattle.output.proofs.Sending.{sent-more}
 use Rattle.model.specs.Sheet.{column}
 use Rattle.lines.proofs.Sends.{number-next}
 use borrow.Author.Needs.{needs}

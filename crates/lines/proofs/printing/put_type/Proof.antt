@@ -1,5 +1,5 @@
 use Rattle.chars.specs.Bytes.{ascii}
-use Rattle.iri.proofs.Sending.{sent-as}
+use Rattle.output.proofs.Sending.{sent-as}
 use Rattle.lines.proofs.Sends.{type-none, type-some}
 use borrow.Author.Needs.{needs}
 use Rattle.lines.proofs.printing.put_type.Statement.{statement}

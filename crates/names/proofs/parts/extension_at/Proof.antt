@@ -7,7 +7,8 @@ use borrow.Author.Tests.{ne-eqb}
 use Rattle.chars.specs.Bytes.{slash, dot}
 use Rattle.chars.specs.Lists.{afterLast}
 use Rattle.names.specs.Names.{extensionAt}
-use Rattle.chars.proofs.Searches.{take-rest, last-le}
+use Rattle.base.proofs.Lists.{take-rest}
+use Rattle.chars.proofs.Searches.{last-le}
 use borrow.Author.Needs.{needs}
 use Rattle.names.proofs.parts.extension_at.Statement.{statement}
 use Rattle.names.proofs.parts.extension_at.Tie as tie

@@ -7,7 +7,7 @@ use lib.ListN.{length, drop, length-drop}
 use borrow.Author.Needs.{needs}
 use Rattle.chars.specs.Characters.{unit}
 use Rattle.chars.specs.Lists.{tiled}
-use Rattle.chars.proofs.Searches.{take-rest}
+use Rattle.base.proofs.Lists.{take-rest}
 use Rattle.chars.proofs.Tiles.{tiled-step, tiled-stop, tiled-end}
 use Rattle.chars.proofs.UnitLengths.{unit-le}
 use Rattle.names.proofs.units.all_units.Statement.{statement}

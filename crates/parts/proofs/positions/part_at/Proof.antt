@@ -34,8 +34,8 @@ returns-2 c =
 
 returns-3 : tie.Need-returns-3
 returns-3 c =
-    let at-put-all = c .before .before in
-    let at-field = at-put-all .before .before in
+    let at-put-text = c .before .before in
+    let at-field = at-put-text .before .before in
     let at-if2 = at-field .before in
     let at-walk = at-if2 .before in
     let at-item-count = at-walk .before in
@@ -43,7 +43,7 @@ returns-3 c =
     let at-opened = at-if1 .before in
     let args = at-opened .before .before .before .args in
     position-written _ (let-in _ _ (at-opened .opened .ensures) (at-if1 .if1 .left)) _ (at-item-count .item-count .ensures) _ _ _
-    (at-walk .walk .ensures) (args .out .now) (at-if2 .if2 .left) _ (at-field .field .ensures .2) _ (at-put-all .put-all .ensures)
+    (at-walk .walk .ensures) (args .out .now) (at-if2 .if2 .left) _ (at-field .field .ensures .2) _ (at-put-text .put-text .ensures)
 
 pub part-at-spec : {M : Type 1} → statement M
 part-at-spec =

@@ -1,7 +1,7 @@
 use borrow.Author.Needs.{needs}
 use native.Mathlib.Omega.{arith}
 use lib.ListN.{length-set}
-use Rattle.store.proofs.Copies.{put4-stores}
+use Rattle.store.proofs.Numbers.{put4-stores}
 use Rattle.store.proofs.bytes.put4.Statement.{statement}
 use Rattle.store.proofs.bytes.put4.Tie as tie
 

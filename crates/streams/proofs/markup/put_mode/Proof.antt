@@ -1,4 +1,4 @@
-use Rattle.iri.proofs.Sending.{sent-as}
+use Rattle.output.proofs.Sending.{sent-as}
 use Rattle.streams.proofs.LineTexts.{mode-external, mode-internal}
 use borrow.Author.Needs.{needs}
 use Rattle.streams.proofs.markup.put_mode.Statement.{statement}

@@ -6,8 +6,8 @@ use lib.ListN.{length, take, drop, length-take, length-drop}
 use borrow.Author.Needs.{needs}
 use denote.Ref.{now}
 use Rattle.chars.specs.Lists.{indexOf}
-use Rattle.iri.specs.Scratch.{Sent}
-use Rattle.iri.proofs.Sending.{sent-none}
+use Rattle.output.specs.Sends.{Sent}
+use Rattle.output.proofs.Sending.{sent-none}
 use Rattle.model.specs.Texts.{ampersand, quoted}
 use Rattle.streams.proofs.Quoting.{next-from, stretch-length, sent-stretch, sent-rest, taken-near}
 use Rattle.streams.proofs.markup.put_quoted.Statement.{statement}

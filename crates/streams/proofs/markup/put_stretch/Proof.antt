@@ -1,4 +1,4 @@
-use Rattle.iri.proofs.Sending.{sent-more}
+use Rattle.output.proofs.Sending.{sent-more}
 use borrow.Author.Needs.{needs}
 use Rattle.streams.proofs.markup.put_stretch.Statement.{statement}
 use Rattle.streams.proofs.markup.put_stretch.Tie as tie

@@ -46,8 +46,8 @@ type-row-requires c κs =
 
 returns-4 : tie.Need-returns-4
 returns-4 c =
-    let at-put-all = c .before .before in
-    let at-field = at-put-all .before .before in
+    let at-put-text = c .before .before in
+    let at-field = at-put-text .before .before in
     let at-if4 = at-field .before in
     let at-count = at-if4 .before in
     let at-type-row = at-count .before in
@@ -61,7 +61,7 @@ returns-4 c =
     type-written _ (let-in _ _ (at-opened .opened .ensures) (at-if1 .if1 .left)) (args .name .now) (args .out .now) _
     (at-is-part-name .is-part-name .ensures) (at-if2 .if2 .left) _ (at-is-part .is-part .ensures) (at-if3 .if3 .left) _ _
     (at-type-row .type-row .ensures) (at-count .count .ensures .0) (at-if4 .if4 .taken) _ (at-field .field .ensures .2) _
-    (at-put-all .put-all .ensures)
+    (at-put-text .put-text .ensures)
 
 returns-5 : tie.Need-returns-5
 returns-5 c =

@@ -1,0 +1,6 @@
+pub mod Lists
+pub mod Parts
+pub mod Copies
+pub mod Writes
+pub mod Blocks
+pub mod Cases

@@ -1,0 +1,25 @@
+-- Parts of lists.
+-- Assumes nothing.
+use Prim.Native.Nat.{ℕ, zero, suc, _-_, _≤_}
+use mathlib.Core.Path.{_≡_}
+use mathlib.Core.List.{List, [], _∷_}
+use native.Mathlib.Omega.{arith}
+use lib.ListN.{length, take, drop, length-drop}
+use lib.Seq.{take-all}
+
+-- the part s[i..] of a slice
+pub take-rest : (s : List ℕ) (i : ℕ) → take (length s - i) (drop i s) ≡ drop i s
+take-rest s i = take-all (length s - i) (drop i s) (simp length-drop (omega arith))
+
+pub length-take-le-length : (n : ℕ) (l : List ℕ) → length (take n l) ≤ length l
+length-take-le-length zero l = omega arith
+length-take-le-length (suc n) [] = omega arith
+length-take-le-length (suc n) (x ∷ l) = omega (arith, length-take-le-length n l)
+
+pub length-take-few : (n : ℕ) (l : List ℕ) → length (take n l) ≤ n
+length-take-few zero l = omega arith
+length-take-few (suc n) [] = omega arith
+length-take-few (suc n) (x ∷ l) = omega (arith, length-take-few n l)
+
+pub length-part-le : (n i : ℕ) (s : List ℕ) → length (take n (drop i s)) ≤ length s
+length-part-le n i s = omega (arith, length-take-le-length n (drop i s), length-drop i s)

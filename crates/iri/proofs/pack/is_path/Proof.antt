@@ -1,7 +1,0 @@
-use borrow.Author.Needs.{needs}
-use Rattle.iri.proofs.pack.is_path.Statement.{statement}
-use Rattle.iri.proofs.pack.is_path.Tie as tie
-
-pub is-path-spec : {M : Type 1} → statement M
-is-path-spec = tie.close (tie.spec
-    (λ c κs. search needs) (λ c. rw (c .is-part-or-root .ensures)))

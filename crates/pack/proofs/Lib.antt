@@ -1,0 +1,9 @@
+pub mod Escapes
+pub mod Decoding
+pub mod Locating
+pub mod Composing
+pub mod Resolving
+pub mod PartNamePaths
+pub mod Fragments
+pub mod RoundTrip
+pub mod PackIris

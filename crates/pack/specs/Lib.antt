@@ -1,0 +1,4 @@
+pub mod Pack
+pub mod Scratch
+pub mod Demand
+pub mod Examples

@@ -1,0 +1,4 @@
+pub mod Judging
+pub mod Sources
+pub mod FoldedSources
+pub mod BackAndForth

@@ -1,0 +1,4 @@
+pub mod Targets
+pub mod Relationships
+pub mod Scratch
+pub mod Examples
