@@ -3,7 +3,7 @@
 use Prim.Native.Nat.{ℕ, suc, _+_, _-_, _≤_, _<_}
 use mathlib.Core.Path.{_≡_, refl, ap, sym, _∙_, subst}
 use mathlib.Core.Bool.{true, false}
-use mathlib.Core.List.{List, [], _++_, append-assoc}
+use mathlib.Core.List.{List, [], _++_, append-assoc, append-nil}
 use native.Mathlib.Omega.{arith}
 use native.Mathlib.Nat.{zero-add, add-zero}
 use lib.ListN.{length, take, drop, length-append, length-drop, take-append-drop, drop-of-length-le}
@@ -11,7 +11,6 @@ use lib.Seq.{take-at, drop-at, drop-drop, length-take-le, take-append-add, drop-
 use Rattle.base.proofs.Lists.{take-rest}
 use Rattle.output.specs.Answers.{Answer}
 use Rattle.model.specs.Sets.{Bytes}
-use Rattle.model.proofs.Lists.{append-nil}
 use Rattle.contract.specs.Ran.{Ran}
 use Rattle.script.specs.Calls.{sizeOf, isCall, callIn}
 use Rattle.script.proofs.CallTests.{call-inside}

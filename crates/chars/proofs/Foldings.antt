@@ -13,7 +13,7 @@ use Rattle.chars.specs.Characters.{nameTriplet, char2, char3, char4, uni
 use Rattle.chars.specs.Folding.{lower, fold}
 use Rattle.chars.specs.Lists.{tiled}
 use Rattle.chars.specs.declared.units.Grammar.the-variants.{Segment}
-use Rattle.chars.proofs.Bools.{and-false, and-left}
+use Rattle.base.proofs.Bools.{and-false, and-left}
 use Rattle.chars.proofs.UnitEnds.{stop2, stop3, stop3′, stop4, stop4′, stop4″}
 
 -- what capitals share with their small letters, every byte shares with its folding

@@ -13,7 +13,7 @@ use lib.Seq.{drop-cons, drop-length, take-suc, length-take-le}
 use borrow.Author.Tests.{eq-eqb, ne-eqb}
 use Rattle.chars.specs.Lists.{every, firstOf, indexOf, lacks, afterFirst, afterLast}
 use Rattle.base.proofs.Lists.{take-rest}
-use Rattle.chars.proofs.Bools.{and-left, and-right, and-true}
+use Rattle.base.proofs.Bools.{and-left, and-right, and-true}
 
 pub drop-next : (s : List ℕ) (i : ℕ) → i < length s → drop i s ≡ getD s i 0 ∷ drop (i + 1) s
 drop-next s i h = rw (add-one) (drop-cons s i 0 h)

@@ -13,7 +13,7 @@ use Rattle.chars.specs.Lists.{every, tiled}
 use Rattle.chars.specs.Characters.{ucschar, code2, code3, code4, char2, char3, char4, nameTriplet, stands, single, triplet, longUnit, unit}
 use Rattle.chars.specs.declared.units.Grammar.{Grammar}
 use Rattle.chars.specs.declared.units.Grammar.the-variants.{Segment, Iri}
-use Rattle.chars.proofs.Bools.{and-left, and-right, and-true}
+use Rattle.base.proofs.Bools.{and-left, and-right, and-true}
 use Rattle.chars.proofs.UnitLengths.{last2, last3, last4, last-hex}
 
 -- each byte that a unit can hold passes q

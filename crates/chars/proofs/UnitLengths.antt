@@ -11,7 +11,7 @@ use Rattle.chars.specs.Bytes.{percent, digit, letter, hexDigit, unreserv
 use Rattle.chars.specs.Characters.{ucschar, code2, code3, code4, char2, char3, char4, nameTriplet, stands, single, triplet, longUnit, unit}
 use Rattle.chars.specs.declared.units.Grammar.{Grammar}
 use Rattle.chars.specs.declared.units.Grammar.the-variants.{Segment, Iri}
-use Rattle.chars.proofs.Bools.{and-left, and-right}
+use Rattle.base.proofs.Bools.{and-left, and-right}
 
 -- a byte that passes a test which 0 fails lies within the text
 pub passes-lt : (p : ℕ → Bool) → p 0 ≡ false → (s : List ℕ) (k : ℕ) → p (getD s k 0) ≡ true → k < length s
@@ -55,11 +55,11 @@ unfolding segmentByte unreserved letter digit
 no-single Segment = refl
 no-single Iri = refl
 
-no-hex : hexDigit 0 ≡ false
+pub no-hex : hexDigit 0 ≡ false
 unfolding hexDigit digit
 no-hex = refl
 
-no-continuation : continuation 0 ≡ false
+pub no-continuation : continuation 0 ≡ false
 unfolding continuation
 no-continuation = refl
 

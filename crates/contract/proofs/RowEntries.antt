@@ -14,7 +14,7 @@ use Rattle.model.specs.Sets.{Bytes, Key, sameKey, held, lookup, insert, remove}
 use Rattle.model.specs.Places.{bound, place, spot}
 use Rattle.model.specs.Calls.{done, refused}
 use Rattle.model.proofs.Numbers.{numbered, zero-numbered}
-use Rattle.model.proofs.Bools.{not-passing}
+use Rattle.base.proofs.Bools.{not-passing}
 use Rattle.model.proofs.KeyOrders.{same-key-sym}
 use Rattle.model.proofs.Sets.{absent}
 use Rattle.model.proofs.Places.{insert-at, remove-at, lookup-at, lookup-none, bound-hit, bound-miss, bound-place}

@@ -10,7 +10,7 @@ use lib.ListN.{length, getD}
 use borrow.Author.Tests.{leb-true, lt-ltb, le-ltb, ne-eqb}
 use Rattle.chars.specs.Bytes.{slash, openBracket, digit}
 use Rattle.chars.specs.Lists.{none, every, afterLast}
-use Rattle.chars.proofs.Bools.{and-right}
+use Rattle.base.proofs.Bools.{and-right}
 use Rattle.names.specs.Names.{partName, lastSegment, folder}
 use Rattle.names.specs.Numbers.{value, numeral}
 use Rattle.names.specs.Items.{suffix, suffixWhere, numberText, named, asPiece, asItem, unlessNoSlash, itemName}

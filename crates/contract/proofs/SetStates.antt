@@ -3,7 +3,7 @@
 use Prim.Native.Nat.{ℕ, _+_, _<_}
 use mathlib.Core.Path.{_≡_, refl, ap, ap₂, sym, _∙_, subst}
 use mathlib.Core.Bool.{Bool, true, false, not, _||_}
-use mathlib.Core.List.{List, [], _∷_, _++_, map, append-assoc}
+use mathlib.Core.List.{List, [], _∷_, _++_, map, append-assoc, append-nil}
 use mathlib.Core.Option.{Option, none, some}
 use native.Mathlib.Omega.{arith}
 use lib.Dec.{leb, ltb}
@@ -14,8 +14,7 @@ use Rattle.model.specs.Sets.{Key, held, lookup, insert, remove, Each}
 use Rattle.model.specs.Fields.{when, first}
 use Rattle.model.specs.Package.{Relationship, State, defaultLimit, overrideLimit, relationshipLimit, keyOfDefault, keyOfOverride, keyOfRelationship, charge}
 use Rattle.model.specs.Calls.{Change, done, refused, changed, noRoom, change, changeRefusal, changeMade, withDefaults, withOverrides, withRelationships}
-use Rattle.model.proofs.Lists.{append-nil}
-use Rattle.model.proofs.Bools.{or-false-left}
+use Rattle.base.proofs.Bools.{or-false-left}
 use Rattle.store.specs.Layout.{countOf, usedOf, slotCount}
 use Rattle.store.specs.Rows.{Row, rowSize, rowsOf}
 use Rattle.contract.specs.Rows.{itemRow, defaultRow, overrideRow, relationshipRow, otherRows, rowsFor, setOf, rowKey}

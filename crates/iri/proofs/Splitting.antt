@@ -12,7 +12,7 @@ use borrow.Author.Tests.{eq-eqb, ne-eqb, eqb-true, eqb-false}
 use Rattle.chars.specs.Bytes.{colon, slash, member, numberSign}
 use Rattle.chars.specs.Lists.{firstOf, indexOf, none}
 use Rattle.chars.specs.declared.search.Alphabet.the-variants.{AuthorityEnd, PathEnd}
-use Rattle.chars.proofs.Bools.{and-false}
+use Rattle.base.proofs.Bools.{and-false}
 use Rattle.base.proofs.Lists.{take-rest}
 use Rattle.chars.proofs.Searches.{first-le, index-le}
 use Rattle.chars.proofs.UnitLengths.{passes-lt}

@@ -2,19 +2,15 @@
 -- Assumes nothing.
 use Prim.Native.Nat.{ℕ, _+_, _-_, _^_, _≤_, _<_}
 use mathlib.Core.Path.{_≡_, refl, ap, ap₂, sym, _∙_, subst}
-use mathlib.Core.Bool.{Bool, true, false, not, _&&_}
+use mathlib.Core.Bool.{Bool, true, false, not}
 use mathlib.Core.List.{[], _∷_, _++_, map}
 use mathlib.Core.Option.{none, some}
 use native.Mathlib.Nat.{zero-add}
 use native.Mathlib.Omega.{arith}
-use lib.Dec.{leb, eqb}
 use lib.ListN.{length, getD, take, drop, length-take, length-drop}
-use borrow.Author.Tests.{ne-eqb, leb-true}
-use Rattle.chars.specs.Bytes.{slash, within}
-use Rattle.chars.specs.Lists.{split, all}
-use Rattle.chars.proofs.Bools.{and-left}
+use borrow.Author.Tests.{ne-eqb}
+use Rattle.chars.specs.Bytes.{within}
 use Rattle.base.proofs.Lists.{take-rest}
-use Rattle.names.specs.Names.{segment, partName}
 use Rattle.output.proofs.Answering.{refusing-is}
 use Rattle.model.specs.Sets.{Bytes, insert, remove, held, lookup}
 use Rattle.model.specs.Places.{place, spot}
@@ -44,6 +40,7 @@ use Rattle.items.specs.declared.wanted.Wanted.{Wanted}
 use Rattle.items.specs.declared.wanted.Wanted.the-variants.{Named, Refused}
 use Rattle.items.proofs.Naming.{wanted-named, wanted-refused, prefix-take, prefix-in}
 use Rattle.items.proofs.Locating.{bound-of}
+use Rattle.names.proofs.Lengths.{name-some}
 
 -- DROP
 drop-named : (S : State) (s : Bytes) (k : ℕ) → itemField s ≡ k → (k ≡ 0 → ⊥) → dropItemRefusal S s ≡ k
@@ -110,13 +107,6 @@ made-row : (s bytes : Bytes) (n t : ℕ) → n ≡ length (prefixOf s) → t ≡
 unfolding itemRow
 made-row s bytes n t en et = rw (take-rest s n, prefix-take s n en, et, en)
 
-part-some : (s : Bytes) → partName s ≡ true → 0 < length s
-unfolding partName
-part-some s e =
-    let w = within 2 255 (length s) in
-    let f = eqb (getD s 0 0) slash in
-    omega (arith, leb-true 2 (length s) (and-left (leb 2 (length s)) (leb (length s) 255) (and-left w f (and-left (w && f) (all segment (split slash (drop 1 s))) e))))
-
 -- EACH WAY OUT; x is the test of the buffer
 module _ (p s : Bytes) (x : Bool) (ex : x ≡ isPackage p) where
   pub drop-foreign : not x ≡ true → Ran (Changes (DropItem s)) p (refused 1) p
@@ -141,7 +131,7 @@ module _ (p s : Bytes) (x : Bool) (ex : x ≡ isPackage p) where
       named-is = wanted-named (itemField s) s w ew n t en
 
       pub named-some : 0 < length (take n s)
-      named-some = rw (prefix-take s n (named-is .0)) (part-some (prefixOf s) (accepted-prefix s (named-is .2) .0))
+      named-some = rw (prefix-take s n (named-is .0)) (name-some (prefixOf s) (accepted-prefix s (named-is .2) .0))
 
       pub named-tag : t < 2 ^ 32
       named-tag = omega (arith, named-is .1, tag-small s)

@@ -2,7 +2,7 @@
 -- Assumes nothing.
 use Prim.Native.Nat.{ℕ, _-_, _≤_, _<_}
 use mathlib.Core.Path.{_≡_, refl, ap, ap₂, sym, _∙_, subst}
-use mathlib.Core.Bool.{Bool, true, false, not, _&&_, _||_, true≢false}
+use mathlib.Core.Bool.{Bool, true, false, not, _&&_, _||_}
 use mathlib.Core.List.{List, [], map}
 use mathlib.Core.Option.{none}
 use native.Mathlib.Omega.{arith}
@@ -12,7 +12,7 @@ use lib.Seq.{take-at}
 use borrow.Author.Tests.{ltb-true, ltb-false, lt-ltb, le-ltb}
 use Rattle.chars.specs.Bytes.{slash}
 use Rattle.chars.specs.Folding.{fold, equivalent}
-use Rattle.chars.proofs.Bools.{and-left, and-right}
+use Rattle.base.proofs.Bools.{and-left, and-right, or-true, or-false-left, or-false-right}
 use Rattle.model.specs.Sets.{Bytes, before, sameKey, held, lookup, any}
 use Rattle.model.specs.Places.{bound, place}
 use Rattle.model.specs.Fields.{first, prefixOf, suffixOf}
@@ -35,14 +35,6 @@ use Rattle.items.proofs.Tags.{tags-disagree-is}
 use Rattle.items.proofs.Naming.{prefix-take}
 use Rattle.items.proofs.Locating.{bound-of, same-is}
 use Rattle.items.proofs.Growth.{none-grown}
-
-or-left-false : (a c : Bool) → (a || c) ≡ false → a ≡ false
-or-left-false true c e = e
-or-left-false false c e = refl
-
-or-right-false : (a c : Bool) → (a || c) ≡ false → c ≡ false
-or-right-false true c e = absurd (true≢false e)
-or-right-false false c e = e
 
 -- THE ORDER OF THE THREE
 module _ (s : Bytes) (xs : List Item) where
@@ -150,15 +142,11 @@ module _
     clash-10 q = record { is = λ S h. first-10 s (S .items) (taken S h q); numbered = numbered 10 (omega arith) (omega arith) }
 
     module _ (q : z ≡ false) (x : Bool) (ex : Opposed b r m (take n s) t x) where
-      or-right-true : (a : Bool) → (a || true) ≡ true
-      or-right-true true = refl
-      or-right-true false = refl
-
       x-is : (S : State) → Holds b S → (ltb r m && opposedAt b r (take n s) t) ≡ x
       x-is S h = sym (ex .is (h .lies .sound) (ec .low))
 
       pub clash-12 : x ≡ true → Clashing b s 12
-      clash-12 e = record { is = λ S h. first-12 s (S .items) (ap held (untaken S h q)) (neighbours S h q ∙ rw (x-is S h, e, or-right-true)); numbered = numbered 12 (omega arith) (omega arith) }
+      clash-12 e = record { is = λ S h. first-12 s (S .items) (ap held (untaken S h q)) (neighbours S h q ∙ rw (x-is S h, e, or-true)); numbered = numbered 12 (omega arith) (omega arith) }
 
       module _ (y : Bool) (ey : OpposedBefore b r m (take n s) t y) where
         y-is : (S : State) → Holds b S → (ltb 0 r && (ltb (r - 1) m && opposedAt b (r - 1) (take n s) t)) ≡ y
@@ -183,12 +171,12 @@ module _
             unparted : 0 < r → partedAt b (r - 1) (prefixOf s) ≡ false
             unparted z =
                 ap (partedAt b (r - 1)) (sym (prefix-take s n en)) ∙ ap (λ (t : Bool). t && partedAt b (r - 1) (take n s)) (sym (lt-ltb 0 r z))
-                ∙ sym (eu .is (h .lies .sound) (eb .within)) ∙ or-left-false u v k
+                ∙ sym (eu .is (h .lies .sound) (eb .within)) ∙ or-false-left u v k
 
             unextended : r < length (S .items) → extendedAt b r (prefixOf s) ≡ false
             unextended z =
                 ap (extendedAt b r) (sym (prefix-take s n en)) ∙ ap (λ (t : Bool). t && extendedAt b r (take n s)) (sym (lt-ltb r m (omega (arith, m-is S h))))
-                ∙ sym (ev .is (h .lies .sound) (ec .low)) ∙ or-right-false u v k
+                ∙ sym (ev .is (h .lies .sound) (ec .low)) ∙ or-false-right u v k
 
             ungrown : Growing s (S .items) ≡ false
             ungrown =

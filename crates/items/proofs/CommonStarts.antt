@@ -3,7 +3,7 @@
 use Prim.Native.Nat.{ℕ, suc, _+_, _≤_, _<_, min}
 use mathlib.Core.Path.{_≡_, refl, ap, ap₂, sym, _∙_}
 use mathlib.Core.Bool.{Bool, true, false, cond}
-use mathlib.Core.List.{List, [], _∷_, _++_, map-append}
+use mathlib.Core.List.{List, [], _∷_, _++_}
 use native.Mathlib.Numerals.{add-one}
 use native.Mathlib.Omega.{arith, min-cases}
 use lib.Dec.{eqb}
@@ -12,6 +12,7 @@ use lib.Seq.{drop-cons, length-take-le}
 use borrow.Author.Tests.{eq-eqb}
 use Rattle.chars.specs.Folding.{lower, fold}
 use Rattle.items.specs.Clashes.{common}
+use Rattle.chars.proofs.FoldedTexts.{fold-append}
 
 pub common-append : (t u v : List ℕ) → common (t ++ u) (t ++ v) ≡ length t + common u v
 unfolding common
@@ -22,9 +23,6 @@ pub common-nil : (s : List ℕ) → common s [] ≡ 0
 unfolding common
 common-nil [] = refl
 common-nil (x ∷ s) = refl
-
-fold-append : (s t : List ℕ) → fold (s ++ t) ≡ fold s ++ fold t
-fold-append s t = map-append lower s t
 
 fold-split : (n : ℕ) (s : List ℕ) → fold s ≡ fold (take n s) ++ fold (drop n s)
 fold-split n s = ap fold (sym (take-append-drop n s)) ∙ fold-append (take n s) (drop n s)

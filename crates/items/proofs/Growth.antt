@@ -4,7 +4,7 @@
 use Prim.Native.Nat.{ℕ, suc, _+_, _-_, _≤_, _<_}
 use mathlib.Core.Path.{_≡_, refl, ap, ap₂, sym, _∙_, subst}
 use mathlib.Core.Bool.{Bool, true, false, not, _||_, cond, true≢false}
-use mathlib.Core.List.{List, [], _∷_, _++_}
+use mathlib.Core.List.{List, [], _∷_, _++_, append-nil}
 use native.Mathlib.Omega.{arith}
 use lib.Dec.{ltb, eqb}
 use lib.ListN.{length, getD, take, drop, length-map, length-drop, length-append}
@@ -14,21 +14,22 @@ use Rattle.chars.specs.Lists.{same, begins}
 use Rattle.chars.specs.Folding.{lower, fold, equivalent, derivable, order}
 use Rattle.chars.specs.declared.folding.Order.{Order}
 use Rattle.chars.specs.declared.folding.Order.the-variants.{Less, Equal, Greater}
-use Rattle.chars.proofs.Bools.{and-right, and-true}
+use Rattle.base.proofs.Bools.{and-right, and-true, not-passing}
 use Rattle.chars.proofs.Orders.{order-equal, order-less}
-use Rattle.chars.proofs.Derivability.{begins-split, begins-append, derivable-longer, derivable-split, derivable-join, derivable-is, derivable-irrefl, take-map}
+use Rattle.chars.proofs.Derivability.{begins-split, begins-append, derivable-longer, derivable-split, derivable-join, derivable-is, derivable-irrefl}
+use Rattle.chars.proofs.FoldedTexts.{take-map}
 use Rattle.names.specs.Names.{partName}
 use Rattle.model.specs.Sets.{Bytes, Key, thenBy, keyOrder, isLess, before, any}
 use Rattle.model.specs.Places.{firstWhere, bound}
 use Rattle.model.specs.Fields.{prefixOf}
 use Rattle.model.specs.Package.{noItem, Item, State, itemKey, keyOfItem, grows}
 use Rattle.model.specs.Good.{Good, Beside}
-use Rattle.model.proofs.Bools.{not-passing}
-use Rattle.model.proofs.Lists.{append-nil, pairs-at, each-at}
+use Rattle.model.proofs.Lists.{pairs-at, each-at}
 use Rattle.model.proofs.Walks.{first-le, first-lt, first-passes, first-le-passing, failing-lt-first, before-first}
 use Rattle.model.proofs.Places.{not-before-monotone}
 use Rattle.model.proofs.ItemNames.{prefixes-named}
-use Rattle.model.proofs.Slashes.{part-no-slash, begins-between}
+use Rattle.names.proofs.NameEnds.{part-no-slash}
+use Rattle.model.proofs.Slashes.{begins-between}
 use Rattle.items.specs.Clashes.{common, extends}
 use Rattle.items.proofs.CommonStarts.{common-append}
 

@@ -10,13 +10,13 @@ use lib.Dec.{ltb, eqb}
 use lib.ListN.{length, getD, take}
 use borrow.Author.Tests.{eqb-true, eqb-false, eq-eqb, ltb-true, ltb-false}
 use Rattle.chars.specs.Folding.{fold, equivalent}
-use Rattle.chars.proofs.Bools.{and-left, and-right, and-true}
+use Rattle.base.proofs.Bools.{and-left, and-right, and-true, not-passing}
 use Rattle.names.specs.declared.items.Suffix.{Suffix}
 use Rattle.model.specs.Sets.{Bytes, Key, sameKey, lookup, Sorted}
 use Rattle.model.specs.Places.{bound, spot}
 use Rattle.model.specs.Fields.{prefixOf, suffixOf, last}
 use Rattle.model.specs.Package.{noItem, State, Item, rank, itemKey, keyOfItem, sameLast, itemAt}
-use Rattle.model.proofs.Bools.{beq-refl, not-passing}
+use Rattle.model.proofs.Bools.{beq-refl}
 use Rattle.model.proofs.Places.{bound-hit, bound-miss, lookup-at}
 use Rattle.model.proofs.Keys.{same-item-key}
 use Rattle.model.proofs.Items.{equivalent-comm}

@@ -2,7 +2,7 @@
 -- Assumes nothing.
 use Prim.Native.Nat.{ℕ, _+_, _-_, _≤_, _<_}
 use mathlib.Core.Path.{_≡_, refl, ap, sym, _∙_}
-use mathlib.Core.Bool.{Bool, true, false, _||_, cond}
+use mathlib.Core.Bool.{Bool, true, false, cond}
 use native.Mathlib.Omega.{arith}
 use lib.Dec.{leb, ltb, eqb}
 use lib.ListN.{length}
@@ -18,6 +18,7 @@ use Rattle.contract.specs.Holds.{Holds}
 use Rattle.contract.specs.Searches.{Bounded, Counted}
 use Rattle.contract.proofs.RowCharges.{used-charge, count-rows, length-others}
 use Rattle.items.specs.Clashes.{Clashing, Cleared}
+use Rattle.base.proofs.Bools.{or-right}
 
 -- a name that is accepted: then the clash, then the room
 refusal-is : (S : State) (s bytes : Bytes) → itemField s ≡ 0 → putItemRefusal S s bytes ≡ cond (eqb (clash s (S .items)) 0) (when (noRoom itemLimit (length (S .items)) (length s + length bytes) S) 15) (clash s (S .items))
@@ -47,10 +48,6 @@ module _ (b s : Bytes) (size r : ℕ) (accepted : itemField s ≡ 0) (k : ℕ) (
     full : ((S : State) → Holds b S → noRoom itemLimit (length (S .items)) (length s + size) S ≡ true) → Cleared b s size r 15
     full f = record { is = λ S bytes h e. room-is S bytes h e ∙ rw (f S h); room = λ y. absurd (omega arith); numbered = numbered 15 (omega arith) (omega arith) }
 
-    or-true : (a b : Bool) → b ≡ true → (a || b) ≡ true
-    or-true true b e = refl
-    or-true false b e = e
-
     pub cleared-many : 256 ≤ m → Cleared b s size r 15
     cleared-many l = full (λ S h. rw (le-leb 256 (length (S .items)) (omega (arith, ec .is S h))))
 
@@ -62,7 +59,7 @@ module _ (b s : Bytes) (size r : ℕ) (accepted : itemField s ≡ 0) (k : ℕ) (
       module _ (f : ℕ) (ef : f + usedOf b ≡ capOf b) where
         over : f < length s + size → Cleared b s size r 15
         over l = full (λ S h.
-            or-true (leb 256 (length (S .items))) (ltb (S .capacity) (charge S + (length s + size))) (lt-ltb (S .capacity) (charge S + (length s + size)) (omega (arith, used-charge b S h, h .lies .capacity))))
+            or-right (leb 256 (length (S .items))) (ltb (S .capacity) (charge S + (length s + size))) (lt-ltb (S .capacity) (charge S + (length s + size)) (omega (arith, used-charge b S h, h .lies .capacity))))
 
         pub cleared-name : f < length s → Cleared b s size r 15
         cleared-name l = over (omega arith)

@@ -10,7 +10,7 @@ use lib.ListN.{length, getD, take}
 use borrow.Author.Tests.{lt-ltb, le-ltb, eq-eqb, ne-eqb, not-true, not-false}
 use Rattle.chars.specs.Bytes.{slash}
 use Rattle.chars.specs.Folding.{fold, equivalent}
-use Rattle.chars.proofs.Bools.{and-false, and-right-true}
+use Rattle.base.proofs.Bools.{and-false, and-right-true}
 use Rattle.model.specs.Sets.{Bytes}
 use Rattle.store.specs.Layout.{countOf}
 use Rattle.store.specs.Rows.{rowAt, tagAt, fieldOf}

@@ -14,7 +14,7 @@ use lib.Seq.{drop-drop, length-take-le, take-all}
 use borrow.Author.Tests.{le-ltb, lt-ltb, eq-eqb, ne-eqb}
 use Rattle.chars.specs.Bytes.{ascii}
 use Rattle.chars.specs.Lists.{same, indexOf, split, cut}
-use Rattle.chars.proofs.Bools.{and-false}
+use Rattle.base.proofs.Bools.{and-false}
 use Rattle.chars.proofs.Searches.{index-le}
 use Rattle.chars.proofs.Splits.{split-last, split-more}
 use Rattle.model.specs.Sets.{Bytes}

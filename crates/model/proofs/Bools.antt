@@ -1,15 +1,7 @@
--- Tests taken apart and compared.
+-- Tests compared.
 -- Assumes nothing.
 use mathlib.Core.Path.{_≡_, refl, sym}
-use mathlib.Core.Bool.{Bool, true, false, _||_, Bool·beq, true≢false}
-
-pub or-false-left : (a b : Bool) → (a || b) ≡ false → a ≡ false
-or-false-left true b e = e
-or-false-left false b e = refl
-
-pub or-false-right : (a b : Bool) → (a || b) ≡ false → b ≡ false
-or-false-right true b e = absurd (true≢false e)
-or-false-right false b e = e
+use mathlib.Core.Bool.{Bool, true, false, _||_, Bool·beq}
 
 pub or-comm : (a b : Bool) → (a || b) ≡ (b || a)
 or-comm true true = refl
@@ -26,8 +18,3 @@ pub iff-eq : (a b : Bool) → (a ≡ true → b ≡ true) → (b ≡ true → a 
 iff-eq true b f g = sym (f refl)
 iff-eq false true f g = g refl
 iff-eq false false f g = refl
-
--- a test whose passing is absurd fails
-pub not-passing : (a : Bool) → (a ≡ true → ⊥) → a ≡ false
-not-passing true f = absurd (f refl)
-not-passing false f = refl

@@ -1,20 +1,17 @@
 -- How long the fields of a good package are.
 -- Assumes nothing.
-use Prim.Native.Nat.{ℕ, _+_, _≤_, _<_}
+use Prim.Native.Nat.{ℕ, _≤_, _<_}
 use mathlib.Core.Path.{_≡_, refl, subst}
-use mathlib.Core.Bool.{Bool, true, false, not, _&&_, cond}
+use mathlib.Core.Bool.{Bool, true, false, not, cond}
 use mathlib.Core.List.{[], _∷_}
 use mathlib.Core.Option.{Option, none, some}
 use native.Mathlib.Omega.{arith}
-use lib.Dec.{leb, eqb}
-use lib.ListN.{length, getD, take, drop}
-use borrow.Author.Tests.{leb-true, ne-eqb}
-use Rattle.chars.specs.Bytes.{slash, within}
-use Rattle.chars.specs.Lists.{indexOf}
-use Rattle.chars.proofs.Bools.{and-left, and-right}
+use lib.Dec.{eqb}
+use lib.ListN.{length, getD}
+use borrow.Author.Tests.{ne-eqb}
 use Rattle.names.specs.Names.{partName, extensionAt}
-use Rattle.names.specs.Types.{mediaType, extension, token}
-use Rattle.names.proofs.Lengths.{name-few}
+use Rattle.names.specs.Types.{mediaType, extension}
+use Rattle.names.proofs.Lengths.{name-few, media-size}
 use Rattle.model.specs.Sets.{Bytes, lookup}
 use Rattle.model.specs.Fields.{when, first, prefixOf, defaultFields, overrideFields}
 use Rattle.model.specs.Package.{Item, Default, Override, State, nameKey, keyOfDefault, keyOfOverride, extensionOf, defaultFor, typeOf, typeOfDefault, mediaTypeOf}
@@ -32,14 +29,6 @@ prefix-few S g i d l =
 -- a media type
 abbrev Sized : Bytes → Type 0
 Sized t = (0 < length t) × (length t ≤ 127)
-
-media-size : (t : Bytes) → mediaType t ≡ true → Sized t
-unfolding mediaType
-media-size t e =
-    let w = within 3 127 (length t) in
-    let a = token (take (indexOf slash t) t) in
-    let b = and-left w a (and-left (w && a) (token (drop (indexOf slash t + 1) t)) e) in
-    (omega (arith, leb-true 3 (length t) (and-left (leb 3 (length t)) (leb (length t) 127) b)), leb-true (length t) 127 (and-right (leb 3 (length t)) (leb (length t) 127) b))
 
 -- the second of two fields that are both accepted is a media type
 second-field : (y z : Bool) (n : ℕ) → 0 < n → first (when (not y) n ∷ when (not z) 7 ∷ []) ≡ 0 → z ≡ true

@@ -3,7 +3,7 @@
 use Prim.Native.Nat.{ℕ, _<_}
 use mathlib.Core.Path.{_≡_, refl, ap, sym, _∙_}
 use mathlib.Core.Bool.{Bool, true, false, not, cond, true≢false}
-use mathlib.Core.List.{List, [], _∷_}
+use mathlib.Core.List.{List, [], _∷_, append-nil}
 use mathlib.Core.Option.{none, some}
 use native.Mathlib.Omega.{arith}
 use lib.Dec.{eqb}
@@ -24,8 +24,8 @@ use Rattle.model.specs.Fields.{first, prefixOf, suffixOf, itemField, ove
 use Rattle.model.specs.Package.{Item, State, itemKey, nameKey, keyOfItem, keyOfDefault, keyOfOverride, rank, group, isPart, content, disagrees, extensionOf, mediaTypeOf}
 use Rattle.model.specs.Calls.{PutItem, PutDefault, PutOverride, ReadPart, MediaType, printed, clash, putItemRefusal, putDefaultRefusal, putOverrideRefusal, changeMade, change}
 use Rattle.model.specs.Demand.{OverridesAnswer, DefaultsAnswer, WholeItemsAreParts}
-use Rattle.model.proofs.Bools.{not-passing}
-use Rattle.model.proofs.Lists.{append-nil, each-both, any-those-none, those-none}
+use Rattle.base.proofs.Bools.{not-passing}
+use Rattle.model.proofs.Lists.{each-both, any-those-none, those-none}
 use Rattle.model.proofs.Sets.{absent, lookup-insert}
 use Rattle.model.proofs.Refusals.{all-none, unmet, changed-done, changed-accepted}
 use Rattle.model.proofs.ItemNames.{prefix-named, suffix-named, prefix-part, refused-number, accepted-prefix}

@@ -15,7 +15,7 @@ use Rattle.chars.specs.Lists.{same, every}
 use Rattle.chars.specs.Folding.{fold, equivalent, order}
 use Rattle.chars.proofs.Equivalence.{equivalent-fold, equivalent-refl}
 use Rattle.chars.proofs.Orders.{order-refl}
-use Rattle.chars.proofs.Bools.{and-left, and-right}
+use Rattle.base.proofs.Bools.{and-left, and-right}
 use Rattle.chars.specs.declared.folding.Order.{Order}
 use Rattle.chars.specs.declared.folding.Order.the-variants.{Less, Equal, Greater}
 use Rattle.chars.specs.declared.search.Alphabet.the-variants.{Id}

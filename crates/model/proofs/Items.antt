@@ -7,7 +7,7 @@ use mathlib.Core.Option.{Option, none, some}
 use lib.Dec.{ltb, eqb}
 use borrow.Author.Tests.{eq-eqb}
 use Rattle.chars.specs.Folding.{equivalent, derivable}
-use Rattle.chars.proofs.Bools.{and-true}
+use Rattle.base.proofs.Bools.{and-true, or-false-left, or-false-right}
 use Rattle.chars.proofs.Equivalence.{equivalent-sym}
 use Rattle.names.specs.declared.items.Suffix.{Suffix}
 use Rattle.names.specs.declared.items.Suffix.the-variants.{Whole, Piece}
@@ -15,7 +15,7 @@ use Rattle.model.specs.Sets.{Bytes, sameKey, lookup}
 use Rattle.model.specs.Fields.{prefixOf, suffixOf, whole, last}
 use Rattle.model.specs.Package.{Item, rank, itemKey, keyOfItem, disagrees, grows, sameLast, itemAt}
 use Rattle.model.specs.Good.{Beside}
-use Rattle.model.proofs.Bools.{or-false-left, or-false-right, or-comm, beq-refl, iff-eq}
+use Rattle.model.proofs.Bools.{or-comm, beq-refl, iff-eq}
 use Rattle.model.proofs.Lookups.{none-some, some-eq}
 use Rattle.model.proofs.Keys.{same-item-key}
 

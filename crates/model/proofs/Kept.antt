@@ -12,6 +12,7 @@ use Rattle.output.specs.Answers.{answer, choose, Outcome, Text, Refused, filled
 use Rattle.model.specs.Sets.{Bytes}
 use Rattle.model.specs.Package.{State, empty}
 use Rattle.model.specs.Calls.{Look, Find, View, Totals, Change, Call, Start, Looks, Changes, Prints, done, refused, pick, changed, startRefusal, askedRefusal, changeRefusal, changeMade, look, change, printed, valueCount, step, lent}
+use Rattle.output.proofs.Answering.{filled-kept}
 
 changed-kept : (n : ℕ) (S T : State) → (changed n S T .0 .number ≡ 0 → ⊥) → (changed n S T .1 ≡ S) × (changed n S T .0 .output ≡ [])
 changed-kept n S T h = go (eqb n 0) h
@@ -37,17 +38,6 @@ look-kept S (View name) h = go (eqb (askedRefusal S name) 0) _ h
     go true o k = absurd (k refl)
     go false o k = absurd (k refl)
 look-kept S Totals h = refl
-
-filled-kept : (n : ℕ) (out : Bytes) (w : Outcome) → (filled n out w .number ≡ 0 → ⊥) → filled n out w .output ≡ out
-unfolding filled
-filled-kept n out (Refused k) h = refl
-filled-kept n out (Text t more) h = go (leb (length t) (length out)) h
-  where
-    go : (b : Bool) →
-        (choose b (answer 0 (length t ∷ more) (t ++ drop (length t) out)) (answer 3 (length t ∷ replicate (n - 1) 0) out) .number ≡ 0 → ⊥) →
-        choose b (answer 0 (length t ∷ more) (t ++ drop (length t) out)) (answer 3 (length t ∷ replicate (n - 1) 0) out) .output ≡ out
-    go true k = absurd (k refl)
-    go false k = refl
 
 -- "package and outputs stay unchanged"
 pub refusal-kept : (room : ℕ) (S : State) (c : Call) → (step room S c .0 .number ≡ 0 → ⊥) → (step room S c .1 ≡ S) × (step room S c .0 .output ≡ lent c)

@@ -7,7 +7,7 @@ use Rattle.chars.specs.declared.folding.Order.{Order}
 use Rattle.chars.specs.declared.folding.Order.the-variants.{Less, Equal, Greater}
 use Rattle.chars.proofs.Orders.{less-equal, less-greater, equal-greater, order-refl, order-equal, order-less, order-greater, order-trans}
 use Rattle.model.specs.Sets.{Bytes, Key, thenBy, keyOrder, isLess, isEqual, before, sameKey}
-use Rattle.model.proofs.Bools.{not-passing}
+use Rattle.base.proofs.Bools.{not-passing}
 
 pub key-refl : (a : Key) → keyOrder a a ≡ Equal
 unfolding keyOrder thenBy

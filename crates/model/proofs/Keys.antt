@@ -11,7 +11,7 @@ use Rattle.chars.specs.Lists.{same}
 use Rattle.chars.specs.Folding.{fold, equivalent, order, foldedOrder}
 use Rattle.chars.specs.declared.folding.Order.{Order}
 use Rattle.chars.specs.declared.folding.Order.the-variants.{Less, Equal, Greater}
-use Rattle.chars.proofs.Bools.{and-right-true}
+use Rattle.base.proofs.Bools.{and-right-true}
 use Rattle.chars.proofs.Orders.{less-equal, less-greater}
 use Rattle.model.specs.Sets.{Bytes, Key, thenBy, keyOrder, isEqual, sameKey}
 use Rattle.model.specs.Fields.{prefixOf, suffixOf}

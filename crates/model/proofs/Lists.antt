@@ -10,7 +10,7 @@ use lib.ListN.{length, getD, take, drop, length-drop}
 use lib.Seq.{slice, length-take-le, getD-take, getD-drop, drop-nil, take-append-add, drop-append-add}
 use borrow.Author.Tests.{ltb-true, ltb-false, lt-ltb, le-ltb}
 use Rattle.model.specs.Sets.{any, those, Each, Pairs}
-use Rattle.model.proofs.Bools.{or-false-left, or-false-right, not-passing}
+use Rattle.base.proofs.Bools.{or-false-left, or-false-right, not-passing}
 
 module _ {E : Type 0} where
   -- EACH, PAIRS
@@ -70,10 +70,6 @@ module _ {E : Type 0} where
   pub map-each : {B : Type 0} (f g : E → B) (xs : List E) → Each (λ (x : E). f x ≡ g x) xs → map f xs ≡ map g xs
   map-each f g [] h = refl
   map-each f g (x ∷ xs) h = ap₂ _∷_ (h .0) (map-each f g xs (h .1))
-
-  pub append-nil : (xs : List E) → xs ++ [] ≡ xs
-  append-nil [] = refl
-  append-nil (x ∷ xs) = ap (λ (l : List E). x ∷ l) (append-nil xs)
 
   -- SLICES
   pub slice-map : {F : Type 0} (f : F → E) (m n : ℕ) (xs : List F) → slice m n (map f xs) ≡ map f (slice m n xs)

@@ -15,7 +15,7 @@ use Rattle.model.specs.Places.{lead}
 use Rattle.model.specs.Fields.{prefixOf}
 use Rattle.model.specs.Package.{Item, State, keyOfItem, group, isPart, spelling, leaders, groups, parts}
 use Rattle.model.specs.Good.{Good, fieldsOfItem}
-use Rattle.model.proofs.Bools.{not-passing}
+use Rattle.base.proofs.Bools.{not-passing}
 use Rattle.model.proofs.Lists.{each-map, each-both, each-drop, pairs-drop, map-each, those-append, those-all, those-none, those-those, each-those, pairs-those, length-those}
 use Rattle.model.proofs.Walks.{lead-take}
 use Rattle.model.proofs.KeyOrders.{begins-less}

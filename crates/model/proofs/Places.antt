@@ -10,7 +10,7 @@ use lib.ListN.{length, getD, take, drop}
 use borrow.Author.Tests.{not-true}
 use Rattle.model.specs.Sets.{Key, before, sameKey, lookup, insert, remove, Each, Sorted}
 use Rattle.model.specs.Places.{firstWhere, place, bound, spot}
-use Rattle.model.proofs.Bools.{not-passing}
+use Rattle.base.proofs.Bools.{not-passing}
 use Rattle.model.proofs.Lists.{pairs-map}
 use Rattle.model.proofs.KeyOrders.{before-trans, before-asym, before-turn, before-not-same, same-key-sym}
 use Rattle.model.proofs.Walks.{Monotone}

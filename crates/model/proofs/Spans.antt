@@ -3,7 +3,7 @@
 use Prim.Native.Nat.{ℕ, suc}
 use mathlib.Core.Path.{_≡_, refl, ap, ap₂, sym, _∙_}
 use mathlib.Core.Bool.{Bool, true, false, not, cond, true≢false}
-use mathlib.Core.List.{List, [], _∷_, _++_}
+use mathlib.Core.List.{List, [], _∷_, _++_, append-nil}
 use lib.ListN.{take, drop, take-append-drop}
 use Rattle.chars.specs.Lists.{same}
 use Rattle.chars.specs.Folding.{order}
@@ -12,8 +12,8 @@ use Rattle.chars.specs.declared.folding.Order.the-variants.{Less}
 use Rattle.chars.proofs.Equivalence.{same-eq, eq-same}
 use Rattle.model.specs.Sets.{Bytes, Key, thenBy, keyOrder, isLess, before, those, Each, Sorted}
 use Rattle.model.specs.Places.{firstWhere, bound, lead}
-use Rattle.model.proofs.Bools.{not-passing}
-use Rattle.model.proofs.Lists.{each-map, append-nil, those-append, those-all, those-none}
+use Rattle.base.proofs.Bools.{not-passing}
+use Rattle.model.proofs.Lists.{each-map, those-append, those-all, those-none}
 use Rattle.model.proofs.KeyOrders.{between, begins-less}
 use Rattle.model.proofs.Walks.{lead-take}
 

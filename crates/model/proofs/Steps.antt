@@ -14,7 +14,7 @@ use Rattle.model.specs.Fields.{first, prefixOf, suffixOf}
 use Rattle.model.specs.Package.{Item, Default, Override, Relationship, State, itemLimit, defaultLimit, overrideLimit, relationshipLimit, empty, itemKey, nameKey, relationshipKey, keyOfItem, keyOfDefault, keyOfOverride, keyOfRelationship, itemCharge, defaultCharge, overrideCharge, relationshipCharge, charge, group, disagrees, grows}
 use Rattle.model.specs.Calls.{Call, Start, Looks, Changes, Prints, Change, PutItem, DropItem, PutDefault, DropDefault, PutOverride, DropOverride, PutRelationship, DropRelationship, capacityLimit, overhead, noRoom, withItems, withDefaults, withOverrides, withRelationships, startRefusal, clash, putItemRefusal, dropItemRefusal, putDefaultRefusal, dropDefaultRefusal, putOverrideRefusal, dropOverrideRefusal, putRelationshipRefusal, dropRelationshipRefusal, change, step, after}
 use Rattle.model.specs.Good.{GoodSet, Beside, Good, fieldsOfItem, fieldsOfDefault, fieldsOfOverride, fieldsOfRelationship}
-use Rattle.model.proofs.Bools.{or-false-left}
+use Rattle.base.proofs.Bools.{or-false-left}
 use Rattle.model.proofs.Lists.{each-map, each-both, any-none, any-those-none}
 use Rattle.model.proofs.Sets.{Absent, absent, each-insert, pairs-insert, sorted-insert, each-remove, pairs-remove, sorted-remove, length-insert, length-remove, sum-insert, sum-remove}
 use Rattle.model.proofs.Refusals.{all-none, unmet, room-count, room-charge, changed-good}

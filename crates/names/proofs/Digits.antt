@@ -12,7 +12,7 @@ use Rattle.chars.specs.Bytes.{digit}
 use Rattle.chars.specs.Lists.{none, every}
 use Rattle.names.specs.Numbers.{value, numeral}
 use Rattle.names.specs.Reading.{readNumber}
-use Rattle.chars.proofs.Bools.{and-left, and-right, and-false, and-assoc}
+use Rattle.base.proofs.Bools.{and-left, and-right, and-false, and-assoc}
 use Rattle.chars.proofs.Searches.{drop-next}
 
 pub digit-low : (b : ℕ) → digit b ≡ true → 48 ≤ b

@@ -8,10 +8,9 @@ use lib.ListN.{drop, length, length-map, getD}
 use Rattle.chars.specs.Bytes.{dot, slash, ascii}
 use Rattle.chars.specs.Folding.{fold, lower, equivalent}
 use Rattle.chars.specs.Lists.{lastByte, split, all, afterLast, same}
-use Rattle.chars.proofs.Derivability.{take-map}
+use Rattle.chars.proofs.FoldedTexts.{take-map, drop-map, equivalent-folded, split-fold, last-fold, ends-in-fold}
 use Rattle.names.specs.Names.{segment, partName, lastSegment, folder, reserved}
 use Rattle.chars.proofs.Foldings.{getD-fold, lower-eqb, tiled-fold}
-use Rattle.chars.proofs.FoldedTexts.{drop-map, equivalent-folded, split-fold, last-fold, ends-in-fold}
 
 segment-fold : (s : List ℕ) → segment (fold s) ≡ segment s
 unfolding segment lastByte

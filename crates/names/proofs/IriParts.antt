@@ -11,7 +11,7 @@ use Rattle.chars.specs.Bytes.{colon, numberSign}
 use Rattle.chars.specs.Lists.{indexOf, lacks, tiled}
 use Rattle.chars.specs.Characters.{unit}
 use Rattle.chars.specs.declared.units.Grammar.the-variants.{Iri}
-use Rattle.chars.proofs.Bools.{and-right-true}
+use Rattle.base.proofs.Bools.{and-right-true}
 use Rattle.names.specs.Iris.{scheme, schemeEnd, colonFirst, iri}
 
 pub iri-is : (s : List ℕ) (k x : ℕ) (u h c : Bool) → length s ≤ 255 → k ≡ schemeEnd s → u ≡ tiled (unit Iri) 0 s → h ≡ lacks numberSign (drop (indexOf numberSign s + 1) s)

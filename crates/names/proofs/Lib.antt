@@ -6,4 +6,5 @@ pub mod IriParts
 pub mod NameBytes
 pub mod Spelling
 pub mod Lengths
+pub mod NameEnds
 pub mod FoldedNames

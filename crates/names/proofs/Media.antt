@@ -10,7 +10,7 @@ use lib.ListN.{length, take, drop, drop-of-length-le}
 use borrow.Author.Tests.{le-leb}
 use Rattle.chars.specs.Bytes.{slash}
 use Rattle.chars.specs.Lists.{indexOf}
-use Rattle.chars.proofs.Bools.{and-false, and-right-true}
+use Rattle.base.proofs.Bools.{and-false, and-right-true}
 use Rattle.base.proofs.Lists.{take-rest}
 use Rattle.chars.proofs.Searches.{index-found}
 use Rattle.names.specs.Types.{token, mediaType}

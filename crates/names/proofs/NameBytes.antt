@@ -11,7 +11,7 @@ use Rattle.chars.specs.Bytes.{slash, dot, percent, within, hexDigit}
 use Rattle.chars.specs.Lists.{none, every, lastByte, split, all, tiled}
 use Rattle.chars.specs.Characters.{single, unit}
 use Rattle.chars.specs.declared.units.Grammar.the-variants.{Segment}
-use Rattle.chars.proofs.Bools.{and-left, and-right, and-true}
+use Rattle.base.proofs.Bools.{and-left, and-right, and-true}
 use Rattle.chars.proofs.Splits.{split-every, all-imp}
 use Rattle.chars.proofs.UnitBytes.{Covers, tiled-every, but, covers-but}
 use Rattle.names.specs.Names.{segment, partName}

@@ -14,7 +14,7 @@ use borrow.Author.Tests.{le-leb, lt-ltb, ltb-true, ltb-false, ne-eqb, not-true}
 use Rattle.chars.specs.Bytes.{ascii, slash, openBracket, closeBracket, digit, letter, hexDigit, unreserved, segmentByte}
 use Rattle.chars.specs.Lists.{same, every, firstOf, indexOf, afterLast}
 use Rattle.chars.specs.Folding.{lower, equivalent}
-use Rattle.chars.proofs.Bools.{and-true}
+use Rattle.base.proofs.Bools.{and-true, or-true}
 use Rattle.chars.proofs.Searches.{index-append, last-none, last-append, last-pos, every-append, every-imp, every-getD}
 use Rattle.chars.proofs.UnitBytes.{but, class-but}
 use Rattle.names.specs.Numbers.{value, numeral, digits, decimal4}
@@ -84,10 +84,6 @@ decimal-numeral k h =
         let l : 10 ≤ k = ltb-false k 10 e in
         let d = digits-first 4 k (omega arith) (omega arith) in
         rw (ne-eqb (length (decimal4 k)) 0 (λ z. omega (arith, d .0)), d .1, digits-every 4 k, v, le-leb k 9999 h, or-true)
-      where
-        or-true : (b : Bool) → (b || true) ≡ true
-        or-true true = refl
-        or-true false = refl
 
 -- THE SUFFIX. What follows the last slash of a piece's name
 abbrev tail : ℕ → Bool → List ℕ

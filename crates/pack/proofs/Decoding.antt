@@ -12,7 +12,7 @@ use lib.Seq.{getD-drop, drop-cons, drop-drop, take-suc-set}
 use borrow.Author.Tests.{lt-ltb, le-ltb}
 use Rattle.chars.specs.Bytes.{hexDigit, percent, hexValue}
 use Rattle.chars.specs.Characters.{stands}
-use Rattle.chars.proofs.Bools.{and-right, and-left}
+use Rattle.base.proofs.Bools.{and-right, and-left}
 use Rattle.pack.specs.Pack.{lowTriplet, character, decoded, slashed, packageOf}
 use Rattle.pack.specs.Scratch.{Decoded}
 

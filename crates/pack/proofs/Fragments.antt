@@ -16,7 +16,7 @@ use Rattle.chars.specs.Characters.{unit}
 use Rattle.chars.specs.Lists.{tiled, indexOf, firstOf, lacks}
 use Rattle.chars.specs.declared.search.Alphabet.the-variants.{SchemeEnd}
 use Rattle.chars.specs.declared.units.Grammar.the-variants.{Iri}
-use Rattle.chars.proofs.Bools.{and-true, and-left, and-right}
+use Rattle.base.proofs.Bools.{and-true, and-left, and-right}
 use Rattle.chars.proofs.Searches.{index-le}
 use Rattle.names.specs.Iris.{packageIri, iri, colonFirst, scheme, schemeEnd}
 use Rattle.iri.specs.Components.{question}

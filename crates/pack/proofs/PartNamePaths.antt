@@ -11,7 +11,7 @@ use Rattle.chars.specs.Bytes.{member, numberSign, segmentByte, unreserved, lett
 use Rattle.chars.specs.Lists.{every, firstOf}
 use Rattle.chars.specs.declared.search.Alphabet.the-variants.{PathEnd}
 use Rattle.chars.specs.declared.units.Grammar.the-variants.{Segment}
-use Rattle.chars.proofs.Bools.{and-left, and-right}
+use Rattle.base.proofs.Bools.{and-left, and-right}
 use Rattle.chars.proofs.UnitBytes.{Covers}
 use Rattle.names.specs.Names.{partName}
 use Rattle.names.proofs.NameBytes.{name-every}

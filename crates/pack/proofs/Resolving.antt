@@ -12,7 +12,7 @@ use borrow.Author.Tests.{eqb-true, not-true, not-false}
 use Rattle.chars.specs.Bytes.{ascii}
 use Rattle.chars.specs.Folding.{equivalent}
 use Rattle.chars.specs.Lists.{none, same}
-use Rattle.chars.proofs.Bools.{and-right}
+use Rattle.base.proofs.Bools.{and-right}
 use Rattle.base.proofs.Lists.{take-rest, length-take-few}
 use Rattle.iri.specs.Components.{pathOf, schemeOf, defined, authorityOf, queryOf, fragmentOf}
 use Rattle.pack.specs.Pack.{packForm, partOrRoot, packageOf, unfragmentedIri, resolvePack, Not, partOf, Found, ofResolved, located}

@@ -13,7 +13,7 @@ use Rattle.chars.specs.Bytes.{slash, ascii, member, numberSign}
 use Rattle.chars.specs.Folding.{equivalent, lower}
 use Rattle.chars.specs.Lists.{same, firstOf, lacks, none}
 use Rattle.chars.specs.declared.search.Alphabet.the-variants.{PathEnd, AuthorityEnd}
-use Rattle.chars.proofs.Bools.{and-right, and-left}
+use Rattle.base.proofs.Bools.{and-right, and-left, or-true}
 use Rattle.chars.proofs.Equivalence.{same-eq}
 use Rattle.names.specs.Iris.{colonFirst, packageIri, iri}
 use Rattle.names.specs.Names.{partName}
@@ -95,10 +95,6 @@ resolved-as : (s a n p : List ℕ) → schemeOf s ≡ ascii "pack:" → authorit
     → packageIri p ≡ true → lacks numberSign p ≡ true → length a ≤ 765 → partOrRoot n ≡ true → resolvePack s ≡ Found p (partOf n)
 unfolding resolvePack packForm unfragmentedIri equivalent same lower
 resolved-as s a n p e1 e2 e3 e4 e5 e6 e7 e8 e9 e10 = rw (e1, e2, e3, e4, e5, e6, e7, e8, le-leb (length a) 765 e9, ne-eqb (suc (suc (length a))) 0 (λ q. absurd (omega arith)), e10, or-true (eqb (length n) 0))
-  where
-    or-true : (b : Bool) → (b || true) ≡ true
-    or-true true = refl
-    or-true false = refl
 
 pub pack-iris-return : PackIrisReturn
 unfolding packIri

@@ -21,7 +21,7 @@ use Rattle.model.specs.Places.{bound, lead}
 use Rattle.model.specs.Fields.{prefixOf, suffixOf, whole}
 use Rattle.model.specs.Package.{noItem, Item, State, rank, keyOfItem}
 use Rattle.model.specs.Good.{Beside}
-use Rattle.model.proofs.Bools.{not-passing}
+use Rattle.base.proofs.Bools.{not-passing}
 use Rattle.model.proofs.Lists.{pairs-at}
 use Rattle.model.proofs.Walks.{first-le, first-passes, before-first, first-at, walk-stop, walk-end}
 use Rattle.model.proofs.KeyOrders.{begins-less}

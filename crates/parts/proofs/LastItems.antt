@@ -10,7 +10,7 @@ use lib.ListN.{length, getD}
 use borrow.Author.Tests.{eqb-true, eq-eqb, ne-eqb}
 use Rattle.names.specs.declared.items.Suffix.{Suffix}
 use Rattle.names.specs.declared.items.Suffix.the-variants.{Whole, Piece}
-use Rattle.chars.proofs.Bools.{and-false}
+use Rattle.base.proofs.Bools.{and-false}
 use Rattle.model.specs.Sets.{any, Pairs}
 use Rattle.model.specs.Fields.{suffixOf, whole, last}
 use Rattle.model.specs.Package.{noItem, Item, rank, completeFrom, isPart, disagrees}

@@ -3,7 +3,7 @@
 use Prim.Native.Nat.{ℕ, suc, _+_, _-_, _^_, _≤_, _<_, min}
 use mathlib.Core.Path.{_≡_, refl, ap, sym, _∙_, subst}
 use mathlib.Core.Bool.{Bool, true, false}
-use mathlib.Core.List.{List, [], _∷_, _++_, append-assoc}
+use mathlib.Core.List.{List, [], _∷_, _++_, append-assoc, append-nil}
 use native.Mathlib.Omega.{arith}
 use native.Mathlib.Numerals.{add-one}
 use lib.Dec.{leb}
@@ -14,7 +14,6 @@ use Rattle.output.specs.Sends.{Sent}
 use Rattle.output.proofs.Sending.{sent-none, sent-more}
 use Rattle.model.specs.Sets.{joined}
 use Rattle.model.specs.Package.{noItem, Item, State, content}
-use Rattle.model.proofs.Lists.{append-nil}
 use Rattle.model.proofs.Contents.{read-piece}
 use Rattle.base.specs.Buffer.{splice}
 use Rattle.store.specs.Layout.{countOf}

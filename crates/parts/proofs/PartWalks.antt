@@ -10,7 +10,7 @@ use lib.Dec.{eqb}
 use lib.ListN.{length, getD, take, drop, drop-of-length-le, length-drop}
 use lib.Seq.{drop-cons, drop-drop}
 use borrow.Author.Tests.{eqb-true, eqb-false}
-use Rattle.chars.proofs.Bools.{and-left, and-right}
+use Rattle.base.proofs.Bools.{and-left, and-right}
 use Rattle.model.specs.Sets.{Bytes, before, Each, Sorted, those}
 use Rattle.model.specs.Fields.{prefixOf}
 use Rattle.model.specs.Package.{noItem, Item, State, keyOfItem, isPart, leaders, parts, spelling}

@@ -7,7 +7,7 @@ use native.Mathlib.Omega.{arith}
 use lib.Dec.{leb}
 use lib.ListN.{length}
 use borrow.Author.Tests.{le-leb, lt-leb, leb-true}
-use Rattle.chars.proofs.Bools.{and-left, and-right}
+use Rattle.base.proofs.Bools.{and-left, and-right}
 use Rattle.model.specs.Sets.{Bytes}
 use Rattle.script.specs.Calls.{headSize, lastCode, codeOf, sizeOf, isCall}
 use Rattle.script.specs.declared.heads.Head.{Head}

@@ -1,7 +1,7 @@
 -- The written test of a package: what the code reads, what passing it gives, what passes it and what never does.
 -- Assumes nothing.
 use Prim.Native.Nat.{ℕ, _+_, _≤_, _<_}
-use mathlib.Core.Path.{_≡_, refl, ap, sym, _∙_}
+use mathlib.Core.Path.{_≡_, ap, sym, _∙_}
 use mathlib.Core.Bool.{Bool, true, false, not, _&&_}
 use mathlib.Core.List.{List}
 use native.Mathlib.Omega.{arith}
@@ -14,13 +14,7 @@ use Rattle.store.specs.Buffer.{num4}
 use Rattle.store.specs.Layout.{heapStart, slotCount, maxCapacity, mark, formatOf, capOf, countOf, usedOf, endOf}
 use Rattle.store.specs.Packages.{Sound, Shape, isMarked, isPackage}
 use Rattle.store.proofs.Numbers.{num4-part}
-
-absurd-false : {A : Type 0} → false ≡ true → A
-absurd-false e = let z : _≡_ {A = ℕ} 0 1 = cc in absurd (omega arith)
-
-pub and-true : (a b : Bool) → (a && b) ≡ true → (a ≡ true) × (b ≡ true)
-and-true true b e = (refl, e)
-and-true false b e = absurd-false e
+use Rattle.base.proofs.Bools.{and-both, not-passing}
 
 -- x0, x3, x8, x12, x16, x20 are the numbers as the code has read them, f the format
 pub package-read :
@@ -50,14 +44,14 @@ package-passed b e =
     let u = leb (usedOf b) (capOf b) in
     let g = leb (usedOf b) (endOf b) in
     let w = leb (endOf b + heapStart) (length b) in
-    let t0 = and-true (leb heapStart (length b)) (m && f && n && r && c && u && g && w) e .1 in
-    let tw = and-true (m && f && n && r && c && u && g) w t0 in
-    let tg = and-true (m && f && n && r && c && u) g (tw .0) in
-    let tu = and-true (m && f && n && r && c) u (tg .0) in
-    let tc = and-true (m && f && n && r) c (tu .0) in
-    let tr = and-true (m && f && n) r (tc .0) in
-    let tn = and-true (m && f) n (tr .0) in
-    let tf = and-true m f (tn .0) in
+    let t0 = and-both (leb heapStart (length b)) (m && f && n && r && c && u && g && w) e .1 in
+    let tw = and-both (m && f && n && r && c && u && g) w t0 in
+    let tg = and-both (m && f && n && r && c && u) g (tw .0) in
+    let tu = and-both (m && f && n && r && c) u (tg .0) in
+    let tc = and-both (m && f && n && r) c (tu .0) in
+    let tr = and-both (m && f && n) r (tc .0) in
+    let tn = and-both (m && f) n (tr .0) in
+    let tf = and-both m f (tn .0) in
     record {
       marked = tf .0;
       format = eqb-true (formatOf b) 1 (tf .1);
@@ -99,14 +93,10 @@ sound-package b so =
       le-leb (endOf b + heapStart) (length b) (s .within),
     )
 
-never-true : (x : Bool) → (x ≡ true → ⊥) → x ≡ false
-never-true true f = absurd (f refl)
-never-true false f = refl
-
 -- a buffer of zeros only never passes
 pub package-zeros : (b : List ℕ) → ((i : ℕ) → getD b i 0 ≡ 0) → isPackage b ≡ false
 unfolding isMarked mark num4
-package-zeros b z = never-true (isPackage b) (λ e.
-    let m = and-true (eqb (num4 b 0) (num4 mark 0)) (eqb (num4 b 3) (num4 mark 3)) (package-passed b e .marked) .0 in
+package-zeros b z = not-passing (isPackage b) (λ e.
+    let m = and-both (eqb (num4 b 0) (num4 mark 0)) (eqb (num4 b 3) (num4 mark 3)) (package-passed b e .marked) .0 in
     let n = eqb-true (num4 b 0) (num4 mark 0) m in
     omega (arith, n, z 0, z 1, z 2, z 3))

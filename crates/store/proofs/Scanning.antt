@@ -10,7 +10,7 @@ use lib.Dec.{leb, ltb}
 use borrow.Author.Tests.{leb-true, leb-false, ltb-true, ltb-false}
 use Rattle.store.specs.Layout.{slotOf, offOf}
 use Rattle.store.specs.Places.{Lowest}
-use Rattle.store.proofs.PackageTest.{and-true}
+use Rattle.base.proofs.Bools.{and-both, and-either}
 
 -- what is known once i slots are scanned: least is above every offset, or that of slot r
 pub record Scanned (b : List ℕ) (n c i r least : ℕ) : Type 0 where
@@ -31,15 +31,11 @@ last j i h = ⊎-elim (λ q. inl q) (λ q. inr (omega arith)) (le-or-lt j i)
         go true e = inl (ltb-true j i e)
         go false e = inr (ltb-false j i e)
 
-and-false : (a b : Bool) → (a && b) ≡ false → (a ≡ false) ⊎ (b ≡ false)
-and-false true b e = inr e
-and-false false b e = inl refl
-
 -- r2 and least2 are the two after the test of slot i
 module _ {b : List ℕ} {n c i r least : ℕ} (s : Scanned b n c i r least) (o : ℕ) (eo : (o ≡ offOf (slotOf b i)) × (o < 2 ^ 32)) (r2 least2 : ℕ) where
   pub scan-take : (leb c o && ltb o least) ≡ true → r2 ≡ i → least2 ≡ o → Scanned b n c (i + 1) r2 least2
   scan-take e er el =
-      let t = and-true (leb c o) (ltb o least) e in
+      let t = and-both (leb c o) (ltb o least) e in
       let h = leb-true c o (t .0) in
       let q = ltb-true o least (t .1) in
       rw (er, el) (record {
@@ -53,7 +49,7 @@ module _ {b : List ℕ} {n c i r least : ℕ} (s : Scanned b n c i r least) (o :
     none = λ j w v. ⊎-elim (λ z. s .none j z v)
         (λ z.
         let v2 : c ≤ offOf (slotOf b i) = rw z at v in
-        rw z (⊎-elim (λ x. absurd (omega (arith, leb-false c o x))) (λ x. omega (arith, ltb-false o least x)) (and-false (leb c o) (ltb o least) e))) (last j i w);
+        rw z (⊎-elim (λ x. absurd (omega (arith, leb-false c o x))) (λ x. omega (arith, ltb-false o least x)) (and-either (leb c o) (ltb o least) e))) (last j i w);
   })
 
 pub scan-all : (b : List ℕ) (n c i r least : ℕ) → Scanned b n c i r least → i ≤ n → n ≤ i → Lowest b n c r

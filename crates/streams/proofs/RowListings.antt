@@ -2,7 +2,7 @@
 -- Assumes nothing.
 use Prim.Native.Nat.{ℕ, _+_, _-_, _^_, _≤_, _<_}
 use mathlib.Core.Path.{_≡_, refl, ap, ap₂, sym, _∙_}
-use mathlib.Core.List.{List, [], _++_, append-assoc}
+use mathlib.Core.List.{List, [], _++_, append-assoc, append-nil}
 use native.Mathlib.Omega.{arith}
 use native.Mathlib.Numerals.{add-one}
 use lib.ListN.{length, take, length-append, length-take, drop-of-length-le}
@@ -11,7 +11,6 @@ use Rattle.chars.specs.Bytes.{ascii}
 use Rattle.output.specs.Sends.{Sent}
 use Rattle.output.proofs.Sending.{sent-none, sent-more}
 use Rattle.model.specs.Sets.{Bytes, joined}
-use Rattle.model.proofs.Lists.{append-nil}
 use Rattle.store.specs.Layout.{slotCount, countOf}
 use Rattle.store.specs.Rows.{Row, noRow, rowAt, tagAt, rowsOf, fieldOf}
 use Rattle.store.specs.Packages.{Shape, Sound}

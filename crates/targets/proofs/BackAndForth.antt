@@ -12,7 +12,7 @@ use borrow.Author.Tests.{le-leb, eqb-true}
 use Rattle.chars.specs.Bytes.{slash, ascii}
 use Rattle.chars.specs.Folding.{fold, endsIn, equivalent, lower}
 use Rattle.chars.specs.Lists.{afterLast}
-use Rattle.chars.proofs.Bools.{and-left, and-right}
+use Rattle.base.proofs.Bools.{and-left, and-right}
 use Rattle.chars.proofs.Equivalence.{equivalent-refl, fold-equivalent, equivalent-fold}
 use Rattle.chars.proofs.Searches.{last-le}
 use Rattle.names.specs.Names.{lastSegment, folder, reserved}

@@ -7,8 +7,7 @@ use lib.ListN.{length, length-map, take}
 use Rattle.chars.specs.Bytes.{slash}
 use Rattle.chars.specs.Folding.{fold, lower, equivalent}
 use Rattle.chars.specs.Lists.{afterLast, same}
-use Rattle.chars.proofs.Derivability.{take-map}
-use Rattle.chars.proofs.FoldedTexts.{fold-append, last-fold, root-fold}
+use Rattle.chars.proofs.FoldedTexts.{take-map, fold-append, last-fold, root-fold}
 use Rattle.names.proofs.FoldedNames.{part-name-fold, last-segment-fold, folder-fold, reserved-fold}
 use Rattle.names.specs.Names.{lastSegment, folder}
 use Rattle.targets.specs.Relationships.{sourceOf}

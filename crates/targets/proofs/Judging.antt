@@ -11,7 +11,7 @@ use lib.Seq.{length-take-le}
 use borrow.Author.Tests.{not-true, not-false, lt-leb, le-leb, eq-eqb, ne-eqb}
 use Rattle.chars.specs.Bytes.{ascii}
 use Rattle.chars.specs.Lists.{same, none}
-use Rattle.chars.proofs.Bools.{and-left, and-assoc}
+use Rattle.base.proofs.Bools.{and-left, and-assoc}
 use Rattle.chars.proofs.Equivalence.{same-eq}
 use Rattle.names.specs.Iris.{iri}
 use Rattle.names.specs.Names.{partName, reserved}

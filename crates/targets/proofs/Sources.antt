@@ -11,7 +11,7 @@ use borrow.Author.Tests.{lt-leb, not-true, leb-true, eqb-true, eqb-false, le-leb
 use Rattle.chars.specs.Bytes.{slash, ascii}
 use Rattle.chars.specs.Folding.{endsIn, equivalent}
 use Rattle.chars.specs.Lists.{afterLast}
-use Rattle.chars.proofs.Bools.{and-false, and-left, and-right}
+use Rattle.base.proofs.Bools.{and-false, and-left, and-right}
 use Rattle.base.proofs.Lists.{take-rest, length-take-few}
 use Rattle.names.specs.Names.{reserved, lastSegment, folder}
 use Rattle.names.proofs.Reserved.{reserved-none, second-le}

@@ -24,7 +24,7 @@ use Rattle.contract.specs.Holds.{Holds}
 use Rattle.contract.specs.Entries.{Entered, Dropped}
 use Rattle.contract.specs.Ran.{Ran}
 use Rattle.contract.proofs.Rans.{ran-changed, field-refused}
-use Rattle.contract.proofs.FieldSizes.{extension-some, name-some}
+use Rattle.names.proofs.Lengths.{extension-some, name-some}
 use Rattle.contract.proofs.FirstRefusals.{first-met, first-unmet, first-one}
 use Rattle.contract.proofs.SetStates.{Among, defaults-among, overrides-among, default-slot, override-slot, drop-step, put-step}
 

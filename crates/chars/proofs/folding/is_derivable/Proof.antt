@@ -2,7 +2,7 @@ use mathlib.Core.Path.{sym, _∙_}
 use native.Mathlib.Omega.{arith}
 use lib.Seq.{length-take-le}
 use borrow.Author.Tests.{ne-eqb}
-use Rattle.chars.proofs.Bools.{and-false, and-right-true}
+use Rattle.base.proofs.Bools.{and-false, and-right-true}
 use Rattle.chars.proofs.Derivability.{derivable-is, not-derivable}
 use borrow.Author.Needs.{needs}
 use Rattle.chars.proofs.folding.is_derivable.Statement.{statement}

@@ -5,7 +5,7 @@ use borrow.Author.Tests.{lt-leb}
 use Rattle.chars.specs.Bytes.{numberSign, member}
 use Rattle.chars.specs.Lists.{lacks}
 use Rattle.chars.specs.declared.search.Alphabet.the-variants.{SchemeEnd}
-use Rattle.chars.proofs.Bools.{and-false}
+use Rattle.base.proofs.Bools.{and-false}
 use Rattle.chars.proofs.Searches.{first-le}
 use Rattle.names.specs.Iris.{iri}
 use Rattle.names.proofs.IriParts.{iri-is}

@@ -1,5 +1,5 @@
 use borrow.Author.Tests.{le-leb, lt-leb, ne-eqb}
-use Rattle.chars.proofs.Bools.{and-false}
+use Rattle.base.proofs.Bools.{and-false}
 use Rattle.names.specs.Names.{partName}
 use borrow.Author.Needs.{needs}
 use Rattle.names.proofs.parts.is_part_name.Statement.{statement}

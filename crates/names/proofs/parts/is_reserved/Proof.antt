@@ -2,7 +2,7 @@ use mathlib.Core.Path.{sym, refl, _∙_}
 use native.Mathlib.Omega.{arith}
 use lib.Seq.{length-take-le}
 use Rattle.chars.specs.Bytes.{slash}
-use Rattle.chars.proofs.Bools.{and-false, and-right-true}
+use Rattle.base.proofs.Bools.{and-false, and-right-true}
 use Rattle.chars.proofs.Searches.{last-le}
 use Rattle.names.proofs.Reserved.{reserved-none, second-le, reserved-is}
 use borrow.Author.Needs.{needs}

@@ -1,5 +1,5 @@
 use borrow.Author.Tests.{le-leb, lt-leb}
-use Rattle.chars.proofs.Bools.{and-false, and-right-true}
+use Rattle.base.proofs.Bools.{and-false, and-right-true}
 use Rattle.names.specs.Types.{identifier}
 use borrow.Author.Needs.{needs}
 use Rattle.names.proofs.types.is_id.Statement.{statement}

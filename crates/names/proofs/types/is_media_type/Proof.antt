@@ -2,7 +2,7 @@ use mathlib.Core.Path.{sym}
 use native.Mathlib.Omega.{arith}
 use lib.Seq.{length-take-le}
 use borrow.Author.Tests.{lt-leb}
-use Rattle.chars.proofs.Bools.{and-false}
+use Rattle.base.proofs.Bools.{and-false}
 use Rattle.names.specs.Types.{mediaType}
 use Rattle.names.proofs.Media.{media-is, media-no}
 use borrow.Author.Needs.{needs}
