@@ -78,9 +78,9 @@ module _ (f : ℕ → ℕ) (a b : List ℕ) (i : ℕ) where
     pub order-next : (o ≡ 0 → ⊥) → (o ≡ 2 → ⊥) → order (map f (drop i a)) (map f (drop i b)) ≡ order (map f (drop (i + 1) a)) (map f (drop (i + 1) b))
     order-next y z = order-at ∙ rw (ne-eqb o 0 y, ne-eqb o 2 z)
 
-  pub order-same : length a ≤ i → length b ≤ i → order (map f (drop i a)) (map f (drop i b)) ≡ Equal
+  pub order-end : length a ≤ i → length b ≤ i → order (map f (drop i a)) (map f (drop i b)) ≡ Equal
   unfolding order
-  order-same h g = rw (drop-of-length-le a h, drop-of-length-le b g)
+  order-end h g = rw (drop-of-length-le a h, drop-of-length-le b g)
 
   pub order-shorter : length a ≤ i → i < length b → order (map f (drop i a)) (map f (drop i b)) ≡ Less
   unfolding order

@@ -1,20 +1,22 @@
 -- Derivability is transitive and irreflexive, and can be read off the bytes as they stand.
 -- Assumes nothing.
-use Prim.Native.Nat.{ℕ, zero, suc, _+_, _≤_, _<_}
+use Prim.Native.Nat.{ℕ, _+_, _≤_, _<_}
 use mathlib.Core.Path.{_≡_, refl, ap, sym, _∙_}
-use mathlib.Core.Bool.{Bool, true, false, _&&_, cond}
-use mathlib.Core.List.{List, [], _∷_, _++_, append-assoc, map}
+use mathlib.Core.Bool.{Bool, true, false, _&&_}
+use mathlib.Core.List.{List, [], _∷_, _++_, append-assoc}
 use native.Mathlib.Numerals.{add-one}
 use native.Mathlib.Omega.{arith}
-use lib.Dec.{leb, ltb, eqb}
-use lib.ListN.{length, take, drop, getD, length-append, length-map, take-append-drop, List·getD-map}
+use lib.Dec.{ltb, eqb}
+use lib.ListN.{length, take, drop, getD, length-append, length-map, take-append-drop}
 use lib.Seq.{take-suc, take-append-seam, length-take-le}
-use borrow.Author.Tests.{ltb-true, lt-ltb, le-ltb, leb-true, ne-eqb}
+use borrow.Author.Tests.{ltb-true, lt-ltb, le-ltb}
 use Rattle.chars.specs.Bytes.{slash}
 use Rattle.chars.specs.Lists.{same, begins}
 use Rattle.chars.specs.Folding.{lower, fold, equivalent, derivable}
 use Rattle.base.proofs.Bools.{and-left, and-right, and-false, and-right-true}
 use Rattle.chars.proofs.Equivalence.{same-eq, same-refl}
+use Rattle.chars.proofs.Foldings.{getD-fold, lower-eqb}
+use Rattle.chars.proofs.FoldedTexts.{take-map}
 
 -- a text that begins with t is t, then the rest
 pub begins-split : (t s : List ℕ) → begins t s ≡ true → s ≡ t ++ drop (length t) s
@@ -62,15 +64,6 @@ derivable-trans a b c e f =
     (simp length-append (omega arith))
 
 -- THE BYTES AS THEY STAND. Folding moves nothing to or from a slash
-lower-slash : (x : ℕ) → eqb (lower x) slash ≡ eqb x slash
-unfolding lower
-lower-slash x = go (leb 65 x) refl (leb x 90) refl
-  where
-    go : (p : Bool) → leb 65 x ≡ p → (q : Bool) → leb x 90 ≡ q → eqb (cond (p && q) (x + 32) x) slash ≡ eqb x slash
-    go true e true f = ne-eqb (x + 32) slash (λ h. omega (arith, leb-true 65 x e)) ∙ sym (ne-eqb x slash (λ h. omega (arith, leb-true 65 x e)))
-    go true e false f = refl
-    go false e q f = refl
-
 same-snoc : (x y : List ℕ) (u v : ℕ) → length x ≡ length y → same (x ++ u ∷ []) (y ++ v ∷ []) ≡ same x y && eqb u v
 unfolding same
 same-snoc [] [] u v h = and-right-true (eqb u v)
@@ -82,15 +75,6 @@ same-snoc (a ∷ x) (b ∷ y) u v h = rw (same-snoc x y u v (omega arith)) (go (
     go true = refl
     go false = refl
 
-pub take-map : (f : ℕ → ℕ) (n : ℕ) (s : List ℕ) → take n (map f s) ≡ map f (take n s)
-take-map f zero s = refl
-take-map f (suc n) [] = refl
-take-map f (suc n) (x ∷ s) = ap (λ (l : List ℕ). f x ∷ l) (take-map f n s)
-
-getD-fold : (a : List ℕ) (n : ℕ) → getD (fold a) n 0 ≡ lower (getD a n 0)
-unfolding lower
-getD-fold a n = List·getD-map lower a n 0
-
 stem-taken : (a b : List ℕ) → length b < length a → take (length (fold b ++ slash ∷ [])) (fold a) ≡ fold (take (length b) a) ++ lower (getD a (length b) 0) ∷ []
 stem-taken a b h =
     let l : length b < length (fold a) = rw (length-map a lower) h in
@@ -101,7 +85,7 @@ unfolding derivable begins equivalent
 derivable-is a b h =
     let n : length (fold (take (length b) a)) ≡ length (fold b) =
     length-map (take (length b) a) lower ∙ length-take-le (length b) a (omega arith) ∙ sym (length-map b lower) in
-    rw (lt-ltb (length b + 1) (length a) h, stem-taken a b (omega arith), same-snoc (fold (take (length b) a)) (fold b) (lower (getD a (length b) 0)) slash n, lower-slash) (and-right-true _)
+    rw (lt-ltb (length b + 1) (length a) h, stem-taken a b (omega arith), same-snoc (fold (take (length b) a)) (fold b) (lower (getD a (length b) 0)) slash n, lower-eqb slash (omega arith)) (and-right-true _)
 
 pub not-derivable : (a b : List ℕ) → length a ≤ length b + 1 → derivable a b ≡ false
 unfolding derivable

@@ -6,11 +6,16 @@ use mathlib.Core.Bool.{Bool, true, false}
 use mathlib.Core.List.{map, List, [], _∷_, _++_}
 use native.Mathlib.Omega.{arith}
 use lib.Dec.{eqb}
-use lib.ListN.{drop, length, length-map}
+use lib.ListN.{take, drop, length, length-map}
 use Rattle.chars.specs.Bytes.{slash, ascii}
 use Rattle.chars.specs.Folding.{fold, lower, equivalent, endsIn}
 use Rattle.chars.specs.Lists.{cut, split, afterLast, same}
 use Rattle.chars.proofs.Foldings.{lower-lower, lower-eqb}
+
+pub take-map : (f : ℕ → ℕ) (n : ℕ) (s : List ℕ) → take n (map f s) ≡ map f (take n s)
+take-map f zero s = refl
+take-map f (suc n) [] = refl
+take-map f (suc n) (x ∷ s) = ap (λ (l : List ℕ). f x ∷ l) (take-map f n s)
 
 pub drop-map : (f : ℕ → ℕ) (n : ℕ) (s : List ℕ) → drop n (map f s) ≡ map f (drop n s)
 drop-map f zero s = refl

@@ -1,4 +1,3 @@
-pub mod Bools
 pub mod Tables
 pub mod Classes
 pub mod Searches

@@ -2,7 +2,7 @@
 -- Assumes nothing.
 use mathlib.Core.Path.{_≡_, refl, sym, ap, _∙_}
 use mathlib.Core.Bool.{Bool, true, false, _&&_, cond}
-use mathlib.Core.List.{List, [], _∷_}
+use mathlib.Core.List.{List, [], _∷_, _++_}
 use mathlib.Core.Logic.{⊎-elim}
 use Prim.Native.Nat.{ℕ, suc, _+_, _-_, _≤_, _<_}
 use native.Mathlib.Nat.{le-of-suc-le-suc, not-suc-le-zero, eq-or-lt-of-le}
@@ -14,6 +14,7 @@ use borrow.Author.Tests.{eqb-true}
 use Rattle.chars.specs.Lists.{every, firstOf, indexOf, split, cut, all}
 use Rattle.base.proofs.Bools.{and-left, and-right, and-true}
 use Rattle.chars.proofs.Searches.{index-le}
+use Rattle.chars.specs.Bytes.{slash}
 
 module _ (b : ℕ) where
   pub split-last : (s : List ℕ) → indexOf b s ≡ length s → split b s ≡ s ∷ []
@@ -79,3 +80,24 @@ split-every b q h (x ∷ s) e = go (eqb x b) refl (split b s) (λ k. split-every
 pub all-imp : (p r : List ℕ → Bool) → ((s : List ℕ) → p s ≡ true → r s ≡ true) → (l : List (List ℕ)) → all p l ≡ true → all r l ≡ true
 all-imp p r h [] e = refl
 all-imp p r h (x ∷ l) e = and-true (r x) (all r l) (h x (and-left (p x) (all p l) e)) (all-imp p r h l (and-right (p x) (all p l) e))
+
+-- a text has a stretch; one that ends with b has an empty one more
+split-some : (b : ℕ) (s : List ℕ) → split b s ≡ [] → ⊥
+unfolding split
+split-some b [] e = let z : _≡_ {A = ℕ} 0 1 = cc in omega arith
+split-some b (x ∷ s) e = go (eqb x b) (split b s) e
+  where
+    go : (q : Bool) (l : List (List ℕ)) → cut q x l ≡ [] → ⊥
+    go true l e = let z : _≡_ {A = ℕ} 0 1 = cc in omega arith
+    go false [] e = let z : _≡_ {A = ℕ} 0 1 = cc in omega arith
+    go false (y ∷ l) e = let z : _≡_ {A = ℕ} 0 1 = cc in omega arith
+
+pub split-snoc : (s : List ℕ) → split slash (s ++ slash ∷ []) ≡ split slash s ++ [] ∷ []
+unfolding split
+split-snoc [] = refl
+split-snoc (x ∷ s) = ap (cut (eqb x slash) x) (split-snoc s) ∙ go (eqb x slash) (split slash s) (split-some slash s)
+  where
+    go : (q : Bool) (l : List (List ℕ)) → (l ≡ [] → ⊥) → cut q x (l ++ [] ∷ []) ≡ cut q x l ++ [] ∷ []
+    go true l n = refl
+    go false [] n = absurd (n refl)
+    go false (y ∷ l) n = refl

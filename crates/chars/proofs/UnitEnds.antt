@@ -17,7 +17,7 @@ use Rattle.chars.specs.declared.units.Grammar.the-variants.{Iri}
 use Rattle.base.proofs.Bools.{and-false, and-true, and-left, and-right}
 use Rattle.chars.proofs.FirstBytes.{at-index}
 use Rattle.chars.proofs.Searches.{index-le}
-use Rattle.chars.proofs.UnitLengths.{unit-le}
+use Rattle.chars.proofs.UnitLengths.{unit-le, no-continuation, no-hex}
 
 -- a byte that does not go on a character ends it
 module _ (z : ℕ) (g : continuation z ≡ false) where
@@ -79,21 +79,13 @@ module _ (z : ℕ) (h : hexDigit z ≡ false) (g : continuation z ≡ false) (h0
       go zero f ih q = absurd (false≢true q)
       go (suc n) f ih q = and-true (not (eqb (suc n) 0)) (tiled (unit Iri) n t) (and-left (not (eqb (suc n) 0)) (tiled (unit Iri) n (t ++ z ∷ r)) q) (ih n (le-of-suc-le-suc f) (and-right (not (eqb (suc n) 0)) (tiled (unit Iri) n (t ++ z ∷ r)) q))
 
-no-hex : hexDigit numberSign ≡ false
+sign-no-hex : hexDigit numberSign ≡ false
 unfolding hexDigit digit
-no-hex = refl
+sign-no-hex = refl
 
-no-on : continuation numberSign ≡ false
+sign-no-continuation : continuation numberSign ≡ false
 unfolding continuation
-no-on = refl
-
-no-hex-0 : hexDigit 0 ≡ false
-unfolding hexDigit digit
-no-hex-0 = refl
-
-no-on-0 : continuation 0 ≡ false
-unfolding continuation
-no-on-0 = refl
+sign-no-continuation = refl
 
 -- what precedes the number sign is tiled
 pub tiled-front : (s : List ℕ) → tiled (unit Iri) 0 s ≡ true → tiled (unit Iri) 0 (take (indexOf numberSign s) s) ≡ true
@@ -102,5 +94,5 @@ tiled-front s e = ⊎-elim
     (λ l.
     let d : drop (indexOf numberSign s) s ≡ numberSign ∷ drop (suc (indexOf numberSign s)) s = drop-cons s (indexOf numberSign s) 0 l ∙ ap (λ (x : ℕ). x ∷ drop (suc (indexOf numberSign s)) s) (at-index numberSign s l) in
     let w : s ≡ take (indexOf numberSign s) s ++ numberSign ∷ drop (suc (indexOf numberSign s)) s = sym (take-append-drop (indexOf numberSign s) s) ∙ ap (λ (t : List ℕ). take (indexOf numberSign s) s ++ t) d in
-    tiled-before numberSign no-hex no-on no-hex-0 no-on-0 0 (take (indexOf numberSign s) s) (drop (suc (indexOf numberSign s)) s) (omega arith) (sym (ap (tiled (unit Iri) 0) w) ∙ e))
+    tiled-before numberSign sign-no-hex sign-no-continuation no-hex no-continuation 0 (take (indexOf numberSign s) s) (drop (suc (indexOf numberSign s)) s) (omega arith) (sym (ap (tiled (unit Iri) 0) w) ∙ e))
     (eq-or-lt-of-le (index-le numberSign s))

@@ -55,11 +55,11 @@ unfolding segmentByte unreserved letter digit
 no-single Segment = refl
 no-single Iri = refl
 
-no-hex : hexDigit 0 ≡ false
+pub no-hex : hexDigit 0 ≡ false
 unfolding hexDigit digit
 no-hex = refl
 
-no-continuation : continuation 0 ≡ false
+pub no-continuation : continuation 0 ≡ false
 unfolding continuation
 no-continuation = refl
 

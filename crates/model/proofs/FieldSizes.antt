@@ -1,6 +1,6 @@
 -- How long the fields of a good package are.
 -- Assumes nothing.
-use Prim.Native.Nat.{ℕ, _+_, _≤_, _<_}
+use Prim.Native.Nat.{ℕ, _≤_, _<_}
 use mathlib.Core.Path.{_≡_, refl, subst}
 use mathlib.Core.Bool.{Bool, true, false, not, cond}
 use mathlib.Core.List.{[], _∷_}
@@ -11,7 +11,7 @@ use lib.ListN.{length, getD}
 use borrow.Author.Tests.{ne-eqb}
 use Rattle.names.specs.Names.{partName, extensionAt}
 use Rattle.names.specs.Types.{mediaType, extension}
-use Rattle.names.proofs.Bounds.{part-name-size, media-type-size}
+use Rattle.names.proofs.Lengths.{part-name-size, media-type-size, media-size}
 use Rattle.model.specs.Sets.{Bytes, lookup}
 use Rattle.model.specs.Fields.{when, first, prefixOf, defaultFields, overrideFields}
 use Rattle.model.specs.Package.{Item, Default, Override, State, nameKey, keyOfDefault, keyOfOverride, extensionOf, defaultFor, typeOf, typeOfDefault, mediaTypeOf, defaultKind, overrideKind}
@@ -19,7 +19,6 @@ use Rattle.model.specs.Good.{Good}
 use Rattle.model.proofs.Lists.{each-at}
 use Rattle.model.proofs.Lookups.{lookup-each}
 use Rattle.model.proofs.ItemNames.{prefixes-named}
-use Rattle.names.proofs.Lengths.{media-size}
 
 -- the prefix of a held item
 pub prefix-few : (S : State) → Good S → (i : ℕ) (d : Item) → i < length (S .items) → length (prefixOf (getD (S .items) i d .name)) ≤ 255

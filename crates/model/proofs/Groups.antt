@@ -18,7 +18,7 @@ use Rattle.chars.proofs.Orders.{order-refl}
 use Rattle.chars.specs.declared.folding.Order.{Order}
 use Rattle.chars.specs.declared.folding.Order.the-variants.{Less, Equal, Greater}
 use Rattle.names.specs.Types.{identifier}
-use Rattle.names.proofs.Bounds.{identifier-first}
+use Rattle.names.proofs.Lengths.{identifier-first}
 use Rattle.model.specs.Sets.{Bytes, thenBy, keyOrder, isLess, isEqual, before, Each, AllPairs, Sorted}
 use Rattle.model.specs.Places.{bound, lead}
 use Rattle.model.specs.Fields.{prefixOf, suffixOf, relationshipFields}

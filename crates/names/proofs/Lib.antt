@@ -5,7 +5,7 @@ pub mod Reserved
 pub mod IriParts
 pub mod NameBytes
 pub mod Spelling
-pub mod Bounds
 pub mod NameEnds
 pub mod Lengths
+pub mod NameEnds
 pub mod FoldedNames

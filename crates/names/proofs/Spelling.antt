@@ -84,10 +84,6 @@ decimal-numeral k h =
         let l : 10 ≤ k = ltb-false k 10 e in
         let d = digits-first 4 k (omega arith) (omega arith) in
         rw (ne-eqb (length (decimal4 k)) 0 (λ z. omega (arith, d .0)), d .1, digits-every 4 k, v, le-leb k 9999 h, or-true)
-      where
-        or-true : (b : Bool) → (b || true) ≡ true
-        or-true true = refl
-        or-true false = refl
 
 -- THE SUFFIX. What follows the last slash of a piece's name
 abbrev tail : ℕ → Bool → List ℕ

@@ -96,14 +96,14 @@ module _ (count : ℕ) (out t vs : List ℕ) where
   filled-written e = filled-fits (leb-true (length t) (length out) (sym filled-accepted ∙ ap (λ (n : ℕ). eqb n 0) e))
 
 -- a call that answers another number than 0 keeps its output
-kept-output : (count : ℕ) (out : List ℕ) (o : Outcome) → (filled count out o .number ≡ 0 → ⊥) → filled count out o .output ≡ out
+pub filled-kept : (count : ℕ) (out : List ℕ) (o : Outcome) → (filled count out o .number ≡ 0 → ⊥) → filled count out o .output ≡ out
 unfolding filled
-kept-output count out (Refused k) h = refl
-kept-output count out (Text t vs) h = go (leb (length t) (length out)) h
+filled-kept count out (Refused k) h = refl
+filled-kept count out (Text t vs) h = go (leb (length t) (length out)) h
   where
     go : (b : Bool) → (answerWhere count out t vs b .number ≡ 0 → ⊥) → answerWhere count out t vs b .output ≡ out
     go true h = absurd (h refl)
     go false h = refl
 
-pub filled-kept : (count : ℕ) (out : List ℕ) (o : Outcome) (a : Answer) → a ≡ filled count out o → (a .number ≡ 0 → ⊥) → a .output ≡ out
-filled-kept count out o a e h = ap (λ (x : Answer). x .output) e ∙ kept-output count out o (λ z. h (ap (λ (x : Answer). x .number) e ∙ z))
+pub answer-kept : (count : ℕ) (out : List ℕ) (o : Outcome) (a : Answer) → a ≡ filled count out o → (a .number ≡ 0 → ⊥) → a .output ≡ out
+answer-kept count out o a e h = ap (λ (x : Answer). x .output) e ∙ filled-kept count out o (λ z. h (ap (λ (x : Answer). x .number) e ∙ z))

@@ -41,9 +41,9 @@ unfolding escaped
 escaped-few [] = omega arith
 escaped-few (b ∷ t) = rw (length-append (escape b) (escaped t)) (omega (arith, escape-few b, escaped-few t))
 
-first-one : (b : ℕ) (s : List ℕ) → (b ≡ numberSign → ⊥) → firstOf (member AuthorityEnd) (escape b ++ s) ≡ length (escape b) + firstOf (member AuthorityEnd) s
+first-escape : (b : ℕ) (s : List ℕ) → (b ≡ numberSign → ⊥) → firstOf (member AuthorityEnd) (escape b ++ s) ≡ length (escape b) + firstOf (member AuthorityEnd) s
 unfolding escape firstOf member
-first-one b s h =
+first-escape b s h =
     let P : ℕ → Type 0 = λ (x : ℕ). firstOf (member AuthorityEnd) (escape x ++ s) ≡ length (escape x) + firstOf (member AuthorityEnd) s in
     by-value P b percent (omega arith) (λ a. by-value P b question (omega arith) (λ c. by-value P b atSign (omega arith) (λ d. by-value P b colon (omega arith) (λ e. by-value P b comma (omega arith) (λ f. by-value P b slash (omega arith) (λ g.
     rw (ne-eqb b percent a, ne-eqb b question c, ne-eqb b atSign d, ne-eqb b colon e, ne-eqb b comma f, ne-eqb b slash g, ne-eqb b slash g, ne-eqb b question c, ne-eqb b numberSign h) (omega arith)))))))
@@ -54,7 +54,7 @@ unfolding escaped firstOf
 first-escaped [] n h = omega arith
 first-escaped (b ∷ t) n h = by-value (λ (x : ℕ). cond (eqb x numberSign) 0 (suc (indexOf numberSign t)) ≡ suc (length t) → firstOf (member AuthorityEnd) (escape x ++ escaped t ++ n) ≡ length (escape x ++ escaped t) + firstOf (member AuthorityEnd) n) b numberSign
     (λ e. absurd (omega arith))
-    (λ d e. rw (append-assoc (escape b) (escaped t) n, first-one b (escaped t ++ n) d, length-append (escape b) (escaped t))
+    (λ d e. rw (append-assoc (escape b) (escaped t) n, first-escape b (escaped t ++ n) d, length-append (escape b) (escaped t))
     (omega (arith, first-escaped t n (let g : suc (indexOf numberSign t) ≡ suc (length t) = rw (ne-eqb b numberSign d) at e in omega arith)))) h
 
 -- a byte that is replaced, and one that is not

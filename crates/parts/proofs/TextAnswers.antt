@@ -8,7 +8,7 @@ use mathlib.Core.Logic.{⊎-elim}
 use native.Mathlib.Omega.{arith}
 use lib.ListN.{length}
 use Rattle.output.specs.Answers.{Answer, answer, written, Text, Refused, filled}
-use Rattle.output.proofs.Answering.{filled-kept, filled-number}
+use Rattle.output.proofs.Answering.{answer-kept, filled-number}
 use Rattle.model.specs.Package.{State}
 use Rattle.model.specs.Calls.{Print, Prints, Numbered, printed, valueCount}
 use Rattle.model.proofs.Numbers.{numbered, zero-numbered}
@@ -30,4 +30,4 @@ module _ (b : List ℕ) (t : Open b) (w : Print) (v : valueCount w ≡ 1) (out :
 
   pub text-answered : (s : List ℕ) (a : Answer) → a ≡ written (Text s []) out → ((S : State) → Holds b S → printed S (length out) w ≡ Text s []) → Ran (Prints w out) b a b
   text-answered s a ea e = 
-      wrote b t w out a (text-numbered 1 out s [] a ea) (filled-kept 1 out (Text s []) a ea) (λ S h. ea ∙ rw (e S h, v))
+      wrote b t w out a (text-numbered 1 out s [] a ea) (answer-kept 1 out (Text s []) a ea) (λ S h. ea ∙ rw (e S h, v))

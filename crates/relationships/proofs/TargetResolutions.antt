@@ -22,7 +22,7 @@ use Rattle.output.specs.Sends.{Fitted}
 use Rattle.iri.specs.Scratch.{Reached}
 use Rattle.base.proofs.Lists.{length-take-few}
 use Rattle.names.proofs.Lengths.{package-few}
-use Rattle.output.proofs.Answering.{refusing-is, fitted-short, fitted-bytes, filled-kept}
+use Rattle.output.proofs.Answering.{refusing-is, fitted-short, fitted-bytes, answer-kept}
 use Rattle.model.specs.Sets.{Bytes, lookup}
 use Rattle.model.specs.Fields.{when, first, sourceField, idField, packageField}
 use Rattle.model.specs.Package.{relationshipKind, State, Relationship, relationshipKey, keyOfRelationship, group, isPart}
@@ -145,7 +145,7 @@ module _ (b : List ℕ) (i : ℕ) (li : i < countOf b) (base out t : Bytes) (et 
     pub row-external : g ≡ 32771 → (a : Answer) → a ≡ filled 3 out (Text (resolve (unfragmented base) t) (1 ∷ 0 ∷ [])) → RowResolved b i base out a
     unfolding resolved
     row-external z a ea = record {
-      kept = filled-kept 3 out (Text (resolve (unfragmented base) t) (1 ∷ 0 ∷ [])) a ea;
+      kept = answer-kept 3 out (Text (resolve (unfragmented base) t) (1 ∷ 0 ∷ [])) a ea;
       numbered = text-numbered 3 out (resolve (unfragmented base) t) (1 ∷ 0 ∷ []) a ea;
       is = λ S h r e f.
           let m : eqb (r .mode) 1 ≡ true = eq-eqb (r .mode) 1 (omega (arith, tag-is S h r e)) in

@@ -6,7 +6,7 @@ use lib.ListN.{length, drop}
 use borrow.Author.Needs.{needs}
 use Rattle.chars.specs.Folding.{order}
 use Rattle.chars.specs.Comparing.{inCase}
-use Rattle.chars.proofs.Comparisons.{order-longer, order-less-at, order-greater-at, order-next, order-shorter, order-same}
+use Rattle.chars.proofs.Comparisons.{order-longer, order-less-at, order-greater-at, order-next, order-shorter, order-end}
 use Rattle.chars.proofs.SameStarts.{order-skip}
 use Rattle.chars.proofs.folding.compare_by.Statement.{statement}
 use Rattle.chars.proofs.folding.compare_by.Tie as tie
@@ -73,7 +73,7 @@ returns-5 c =
     let at-loop-test = c .before in
     let at-loop = at-loop-test .before in
     let args = at-loop .before .before .before .before .args in
-    sym (at-loop .loop .inv .1 ∙ order-same (inCase (args .folded)) (args .a .now) (args .b .now) _ (at-loop-test .loop-test .left)
+    sym (at-loop .loop .inv .1 ∙ order-end (inCase (args .folded)) (args .a .now) (args .b .now) _ (at-loop-test .loop-test .left)
     (c .if4 .left))
 
 pub compare-by-spec : {M : Type 1} → statement M
