@@ -7,5 +7,4 @@ pub mod NameBytes
 pub mod Spelling
 pub mod NameEnds
 pub mod Lengths
-pub mod NameEnds
 pub mod FoldedNames
