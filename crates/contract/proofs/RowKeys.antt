@@ -9,7 +9,7 @@ use lib.Dec.{leb, eqb}
 use lib.ListN.{length, getD}
 use borrow.Author.Tests.{leb-true, lt-ltb, le-ltb, ne-eqb}
 use Rattle.chars.specs.Bytes.{slash, openBracket, digit}
-use Rattle.chars.specs.Lists.{none, every, afterLast}
+use Rattle.chars.specs.Lists.{isEmpty, every, afterLast}
 use Rattle.base.proofs.Bools.{and-right}
 use Rattle.names.specs.Names.{partName, lastSegment, folder}
 use Rattle.names.specs.Numbers.{value, numeral}
@@ -32,7 +32,7 @@ small-piece k false h = omega arith
 numeral-small : (s : Bytes) → numeral s ≡ true → value 0 s ≤ 9999
 unfolding numeral
 numeral-small s e =
-    leb-true (value 0 s) 9999 (and-right (not (none s) && (eqb (length s) 1 || not (eqb (getD s 0 0) 48)) && every digit s) (leb (value 0 s) 9999) e)
+    leb-true (value 0 s) 9999 (and-right (not (isEmpty s) && (eqb (length s) 1 || not (eqb (getD s 0 0) 48)) && every digit s) (leb (value 0 s) 9999) e)
 
 suffix-small : (t : Bytes) → Small (suffix t)
 unfolding suffix

@@ -10,7 +10,7 @@ use lib.ListN.{getD, length, take, drop, length-drop, take-append-drop}
 use lib.Seq.{drop-drop, length-take-le}
 use borrow.Author.Tests.{eq-eqb, ne-eqb, eqb-true, eqb-false}
 use Rattle.chars.specs.Bytes.{colon, slash, member, numberSign}
-use Rattle.chars.specs.Lists.{firstOf, indexOf, none}
+use Rattle.chars.specs.Lists.{firstOf, indexOf, isEmpty}
 use Rattle.chars.specs.declared.search.Alphabet.the-variants.{AuthorityEnd, PathEnd}
 use Rattle.base.proofs.Bools.{and-false}
 use Rattle.base.proofs.Lists.{take-rest}
@@ -153,7 +153,7 @@ module _ (s : List ℕ) (a b p q : ℕ) (h : SplitAt s a b p q) where
   fragment-length = rw (← (h .fragment)) (length-drop q s)
 
   -- neither scheme nor authority; neither query nor fragment
-  pub none-before : (none (schemeOf s) && none (authorityOf s)) ≡ eqb b 0
+  pub none-before : (isEmpty (schemeOf s) && isEmpty (authorityOf s)) ≡ eqb b 0
   none-before = rw (scheme-length, authority-length) (go (eqb b 0) refl)
     where
       go : (t : Bool) → eqb b 0 ≡ t → (eqb a 0 && eqb (b - a) 0) ≡ t
@@ -164,7 +164,7 @@ module _ (s : List ℕ) (a b p q : ℕ) (h : SplitAt s a b p q) where
           no true f = let y : a ≡ 0 = eqb-true a 0 f in ne-eqb (b - a) 0 (λ z. eqb-false b 0 e (omega arith))
           no false f = refl
 
-  pub none-after : (none (queryOf s) && none (fragmentOf s)) ≡ eqb p (length s)
+  pub none-after : (isEmpty (queryOf s) && isEmpty (fragmentOf s)) ≡ eqb p (length s)
   none-after = rw (query-length, fragment-length) (go (eqb p (length s)) refl)
     where
       go : (t : Bool) → eqb p (length s) ≡ t → (eqb (q - p) 0 && eqb (length s - q) 0) ≡ t

@@ -9,7 +9,7 @@ use lib.Dec.{eqb}
 use lib.ListN.{take, drop, take-append-drop, length, length-append}
 use lib.Seq.{take-add, drop-drop}
 use borrow.Author.Tests.{eq-eqb, ne-eqb, eqb-true, eqb-false, not-true, not-false}
-use Rattle.chars.specs.Lists.{none}
+use Rattle.chars.specs.Lists.{isEmpty}
 use Rattle.names.specs.Iris.{packageIri, iri}
 use Rattle.output.specs.Answers.{Refused, Text}
 use Rattle.iri.specs.Components.{schemeOf, authorityOf, pathOf, defined, queryOf, fragmentOf, recompose}
@@ -33,22 +33,22 @@ part-append-drop s i j l =
 
 module _ (base r : List ℕ) (b x : Parts) (h : Taken base r b x) where
   -- which components of the reference are defined
-  scheme-none : x .scheme ≡ 0 → none (schemeOf r) ≡ true
+  scheme-none : x .scheme ≡ 0 → isEmpty (schemeOf r) ≡ true
   scheme-none z = rw (scheme-length r _ _ _ _ (h .reference-is)) (eq-eqb (x .scheme) 0 z)
 
-  scheme-some : (x .scheme ≡ 0 → ⊥) → none (schemeOf r) ≡ false
+  scheme-some : (x .scheme ≡ 0 → ⊥) → isEmpty (schemeOf r) ≡ false
   scheme-some z = rw (scheme-length r _ _ _ _ (h .reference-is)) (ne-eqb (x .scheme) 0 z)
 
-  authority-none : x .authority ≡ 0 → none (authorityOf r) ≡ true
+  authority-none : x .authority ≡ 0 → isEmpty (authorityOf r) ≡ true
   authority-none z = rw (authority-length r _ _ _ _ (h .reference-is)) (eq-eqb (x .authority - x .scheme) 0 (omega arith))
 
-  authority-some : x .scheme ≡ 0 → (x .authority ≡ 0 → ⊥) → none (authorityOf r) ≡ false
+  authority-some : x .scheme ≡ 0 → (x .authority ≡ 0 → ⊥) → isEmpty (authorityOf r) ≡ false
   authority-some y z = rw (authority-length r _ _ _ _ (h .reference-is)) (ne-eqb (x .authority - x .scheme) 0 (λ e. z (omega arith)))
 
-  path-none : x .path ≡ 0 → none (pathOf r) ≡ true
+  path-none : x .path ≡ 0 → isEmpty (pathOf r) ≡ true
   path-none z = rw (path-length r _ _ _ _ (h .reference-is)) (eq-eqb (x .path - x .authority) 0 (omega arith))
 
-  path-some : x .authority ≡ 0 → (x .path ≡ 0 → ⊥) → none (pathOf r) ≡ false
+  path-some : x .authority ≡ 0 → (x .path ≡ 0 → ⊥) → isEmpty (pathOf r) ≡ false
   path-some y z = rw (path-length r _ _ _ _ (h .reference-is)) (ne-eqb (x .path - x .authority) 0 (λ e. z (omega arith)))
 
   no-scheme : x .authority ≡ 0 → x .scheme ≡ 0
@@ -68,12 +68,12 @@ module _ (base r : List ℕ) (b x : Parts) (h : Taken base r b x) where
 
   pub head-base : x .authority ≡ 0 → (target base r) .scheme ++ (target base r) .authority ≡ take (b .authority) base
   unfolding transform
-  head-base y = go (none (pathOf r)) refl
+  head-base y = go (isEmpty (pathOf r)) refl
     where
       own : schemeOf base ++ authorityOf base ≡ take (b .authority) base
       own = rw (← (h .base-is .scheme), ← (h .base-is .authority)) (take-append-part base (b .scheme) (b .authority) (h .base-is .a-le))
 
-      go : (t : Bool) → none (pathOf r) ≡ t → (target base r) .scheme ++ (target base r) .authority ≡ take (b .authority) base
+      go : (t : Bool) → isEmpty (pathOf r) ≡ t → (target base r) .scheme ++ (target base r) .authority ≡ take (b .authority) base
       go true e = rw (scheme-none (no-scheme y), authority-none y, e) own
       go false e = rw (scheme-none (no-scheme y), authority-none y, e) own
 
@@ -115,14 +115,14 @@ module _ (base r : List ℕ) (b x : Parts) (h : Taken base r b x) where
       go true d true e false f = rw (scheme-none (eqb-true _ _ d), authority-none (eqb-true _ _ e), path-some (eqb-true _ _ e) (eqb-false _ _ f))
       go true d true e true f =
           let w : x .path ≡ 0 = eqb-true _ _ f in
-          let v : none (queryOf r) ≡ false = rw (query-length r _ _ _ _ (h .reference-is)) (ne-eqb (x .query - x .path) 0 (λ y. q (omega arith))) in
+          let v : isEmpty (queryOf r) ≡ false = rw (query-length r _ _ _ _ (h .reference-is)) (ne-eqb (x .query - x .path) 0 (λ y. q (omega arith))) in
           rw (scheme-none (eqb-true _ _ d), authority-none (eqb-true _ _ e), path-none w, v)
 
   fragment-is : (target base r) .fragment ≡ fragmentOf r
   unfolding transform
-  fragment-is = go (none (schemeOf r)) refl (none (authorityOf r)) refl (none (pathOf r)) refl
+  fragment-is = go (isEmpty (schemeOf r)) refl (isEmpty (authorityOf r)) refl (isEmpty (pathOf r)) refl
     where
-      go : (s : Bool) → none (schemeOf r) ≡ s → (a : Bool) → none (authorityOf r) ≡ a → (p : Bool) → none (pathOf r) ≡ p → (target base r) .fragment ≡ fragmentOf r
+      go : (s : Bool) → isEmpty (schemeOf r) ≡ s → (a : Bool) → isEmpty (authorityOf r) ≡ a → (p : Bool) → isEmpty (pathOf r) ≡ p → (target base r) .fragment ≡ fragmentOf r
       go false d a e p f = rw d
       go true d false e p f = rw (d, e)
       go true d true e false f = rw (d, e, f)
@@ -136,7 +136,7 @@ module _ (base r : List ℕ) (b x : Parts) (h : Taken base r b x) where
   tail-base q =
       let p : x .path ≡ 0 = omega (arith, h .reference-is .p-le) in
       let a : x .authority ≡ 0 = omega (arith, h .reference-is .b-le) in
-      let v : none (queryOf r) ≡ true = rw (query-length r _ _ _ _ (h .reference-is)) (eq-eqb (x .query - x .path) 0 (omega arith)) in
+      let v : isEmpty (queryOf r) ≡ true = rw (query-length r _ _ _ _ (h .reference-is)) (eq-eqb (x .query - x .path) 0 (omega arith)) in
       let f : fragmentOf r ≡ r = sym (h .reference-is .fragment) ∙ rw q in
       rw (scheme-none (no-scheme a), authority-none a, path-none p, v, ← (h .base-is .query), f)
 

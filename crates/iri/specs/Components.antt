@@ -12,7 +12,7 @@ use Prim.Native.Char.{code}
 use lib.Dec.{eqb}
 use lib.ListN.{take, drop, getD}
 use Rattle.chars.specs.Bytes.{slash, numberSign, member}
-use Rattle.chars.specs.Lists.{none, firstOf, indexOf}
+use Rattle.chars.specs.Lists.{isEmpty, firstOf, indexOf}
 use Rattle.chars.specs.declared.search.Alphabet.the-variants.{AuthorityEnd, PathEnd}
 use Rattle.names.specs.Iris.{schemeEnd, colonFirst}
 
@@ -34,7 +34,7 @@ pub record Components : Type 0 where
 
 -- "defined" of RFC 3986, 5.2.2 and 5.3
 abbrev pub defined : List ℕ → Bool
-defined c = not (none c)
+defined c = not (isEmpty c)
 
 -- group 1, `([^:/?#]+):`: the first of : / ? # is a colon, and something stands before it
 unfoldable pub schemeLength : List ℕ → ℕ

@@ -6,7 +6,7 @@ use mathlib.Core.List.{List, [], _∷_, _++_}
 use lib.Dec.{eqb}
 use lib.ListN.{length, take, drop, getD}
 use Rattle.chars.specs.Bytes.{ascii, slash}
-use Rattle.chars.specs.Lists.{none, same, begins, indexOf, afterLast}
+use Rattle.chars.specs.Lists.{isEmpty, same, begins, indexOf, afterLast}
 use Rattle.names.specs.Names.{folder}
 use Rattle.iri.specs.Components.{Components, defined, components, recompose}
 use Rattle.output.specs.Answers.{Outcome, Text, provided}
@@ -70,7 +70,7 @@ removeDotSegments s = turns (length s) (buffers s [])
 -- 5.2.3, merge: "If the base URI has a defined authority component and an empty path", then "/" and the reference's path; otherwise
 -- that path after "all but the last segment of the base URI's path"
 unfoldable pub merge : Bool → List ℕ → List ℕ → List ℕ
-merge authority base r = cond (authority && none base) (slash ∷ r) (take (afterLast slash base) base ++ r)
+merge authority base r = cond (authority && isEmpty base) (slash ∷ r) (take (afterLast slash base) base ++ r)
 
 -- 5.2.2, the path of a reference that has one, and neither scheme nor authority: before dot segments are removed, and after
 abbrev pub mergedPath : Bool → List ℕ → List ℕ → List ℕ
@@ -90,7 +90,7 @@ transform b r =
     (record { scheme = r .scheme; authority = r .authority; path = removeDotSegments (r .path); query = r .query; fragment = r .fragment })
     (either (defined (r .authority))
     (record { scheme = b .scheme; authority = r .authority; path = removeDotSegments (r .path); query = r .query; fragment = r .fragment })
-    (either (none (r .path))
+    (either (isEmpty (r .path))
     (record { scheme = b .scheme; authority = b .authority; path = b .path; query = cond (defined (r .query)) (r .query) (b .query); fragment = r .fragment })
     (record { scheme = b .scheme; authority = b .authority; path = relativePath (defined (b .authority)) (b .path) (r .path); query = r .query; fragment = r .fragment })))
 

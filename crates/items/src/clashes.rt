@@ -3,7 +3,7 @@ use base::bytes::byte_at;
 use base::numbers::smaller;
 use chars::folding::is_derivable;
 use chars::folding::is_equivalent;
-use chars::folding::is_same_letter;
+use chars::letters::is_same_letter;
 use chars::starts::same_start;
 use contract::search::item_count;
 use store::header::count;

@@ -8,7 +8,7 @@ use mathlib.Core.Option.{Option, none, some}
 use lib.Dec.{eqb}
 use lib.ListN.{replicate}
 use Rattle.chars.specs.Bytes.{ascii}
-use Rattle.chars.specs.Lists.{none as isEmpty}
+use Rattle.chars.specs.Lists.{isEmpty}
 use Rattle.model.specs.Sets.{Bytes}
 use Rattle.model.specs.Texts.{line}
 use Rattle.model.specs.Sheet.{space, column, typeOrDash}

@@ -8,7 +8,7 @@ use mathlib.Core.Option.{Option, none, some}
 use lib.Dec.{ltb}
 use lib.ListN.{length, drop, replicate}
 use Rattle.chars.specs.Bytes.{ascii}
-use Rattle.chars.specs.Lists.{none as isEmpty, same, split}
+use Rattle.chars.specs.Lists.{isEmpty, same, split}
 use Rattle.names.specs.Numbers.{digits}
 use Rattle.model.specs.Sets.{Bytes, joined}
 use Rattle.model.specs.Package.{Item, State, empty, content, spelling, parts, mediaTypeOf}

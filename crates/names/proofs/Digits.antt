@@ -9,7 +9,7 @@ use lib.Dec.{leb, eqb}
 use lib.ListN.{length, drop, getD, drop-of-length-le}
 use borrow.Author.Tests.{leb-true, le-leb, lt-leb}
 use Rattle.chars.specs.Bytes.{digit}
-use Rattle.chars.specs.Lists.{none, every}
+use Rattle.chars.specs.Lists.{isEmpty, every}
 use Rattle.names.specs.Numbers.{value, numeral}
 use Rattle.names.specs.Reading.{readNumber}
 use Rattle.base.proofs.Bools.{and-left, and-right, and-false, and-assoc}
@@ -64,10 +64,10 @@ pub read-value : (s : List ℕ) → numeral s ≡ true → readNumber 0 s ≡ va
 unfolding readNumber numeral
 read-value s e =
     let l = leb (value 0 s) 9999 in
-    let a = not (none s) && (eqb (length s) 1 || not (eqb (getD s 0 0) 48)) in
+    let a = not (isEmpty s) && (eqb (length s) 1 || not (eqb (getD s 0 0) 48)) in
     rw (and-right (a && every digit s) l e, and-right a (every digit s) (and-left (a && every digit s) l e))
 
-pub numeral-is : (s : List ℕ) (x r : ℕ) → x ≡ getD s 0 0 → r ≡ readNumber 0 s → (not (none s) && (eqb (length s) 1 || not (eqb x 48)) && leb r 9999) ≡ numeral s
+pub numeral-is : (s : List ℕ) (x r : ℕ) → x ≡ getD s 0 0 → r ≡ readNumber 0 s → (not (isEmpty s) && (eqb (length s) 1 || not (eqb x 48)) && leb r 9999) ≡ numeral s
 unfolding numeral
 numeral-is s x r ex er =
-    rw (ex, er, read-test) (sym (and-assoc (not (none s) && (eqb (length s) 1 || not (eqb (getD s 0 0) 48))) (every digit s) (leb (value 0 s) 9999)))
+    rw (ex, er, read-test) (sym (and-assoc (not (isEmpty s) && (eqb (length s) 1 || not (eqb (getD s 0 0) 48))) (every digit s) (leb (value 0 s) 9999)))

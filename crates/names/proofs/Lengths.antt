@@ -11,7 +11,7 @@ use borrow.Author.Tests.{leb-true}
 use Rattle.chars.specs.Bytes.{within, slash, numberSign, dot}
 use Rattle.chars.specs.Characters.{unit}
 use Rattle.chars.specs.Lists.{all, split, tiled, lacks, indexOf}
-use Rattle.chars.specs.declared.units.Grammar.the-variants.{Iri}
+use Rattle.chars.specs.declared.units.Grammar.the-variants.{Iri, Segment}
 use Rattle.base.proofs.Bools.{and-right, and-left}
 use Rattle.names.specs.Iris.{iri, colonFirst, scheme, schemeEnd, packageIri}
 use Rattle.names.specs.Names.{partName, segment}

@@ -8,7 +8,7 @@ use lib.Dec.{eqb}
 use lib.ListN.{length, drop, getD}
 use borrow.Author.Tests.{eqb-true}
 use Rattle.chars.specs.Bytes.{slash, dot, percent, within, hexDigit}
-use Rattle.chars.specs.Lists.{none, every, lastByte, split, all, tiled}
+use Rattle.chars.specs.Lists.{isEmpty, every, lastByte, split, all, tiled}
 use Rattle.chars.specs.Characters.{single, unit}
 use Rattle.chars.specs.declared.units.Grammar.the-variants.{Segment}
 use Rattle.base.proofs.Bools.{and-left, and-right, and-true}
@@ -18,7 +18,7 @@ use Rattle.names.specs.Names.{segment, partName}
 
 pub segment-every : (q : ℕ → Bool) → Covers Segment q → (s : List ℕ) → segment s ≡ true → every q s ≡ true
 unfolding segment
-segment-every q h s e = tiled-every Segment q h s (and-right (not (none s) && not (eqb (lastByte s) dot)) (tiled (unit Segment) 0 s) e)
+segment-every q h s e = tiled-every Segment q h s (and-right (not (isEmpty s) && not (eqb (lastByte s) dot)) (tiled (unit Segment) 0 s) e)
 
 module _ (n : List ℕ) (h : partName n ≡ true) where
   front : (within 2 255 (length n) && eqb (getD n 0 0) slash) ≡ true

@@ -6,14 +6,14 @@ use mathlib.Core.List.{List}
 use lib.Dec.{eqb}
 use lib.ListN.{length, getD, take, drop}
 use Rattle.chars.specs.Bytes.{ascii, slash, dot, within}
-use Rattle.chars.specs.Lists.{none, afterLast, lastByte, split, all, tiled}
+use Rattle.chars.specs.Lists.{isEmpty, afterLast, lastByte, split, all, tiled}
 use Rattle.chars.specs.Characters.{unit}
 use Rattle.chars.specs.Folding.{equivalent, endsIn}
 use Rattle.chars.specs.declared.units.Grammar.the-variants.{Segment}
 
 -- "it is one or more of" the units of a segment, under the triplet rule; "it does not end with a dot"
 unfoldable pub segment : List ℕ → Bool
-segment s = not (none s) && not (eqb (lastByte s) dot) && tiled (unit Segment) 0 s
+segment s = not (isEmpty s) && not (eqb (lastByte s) dot) && tiled (unit Segment) 0 s
 
 -- "A part name is 2 to 255 bytes of UTF-8: one or more times a slash and a segment": after the first slash, the stretches between
 -- slashes are the segments. "Each segment is judged by itself, from its own start"

@@ -7,7 +7,7 @@ use Prim.Native.Char.{code}
 use lib.Dec.{leb, ltb, eqb}
 use lib.ListN.{length, getD}
 use Rattle.chars.specs.Bytes.{digit}
-use Rattle.chars.specs.Lists.{none, every}
+use Rattle.chars.specs.Lists.{isEmpty, every}
 
 -- the number that digits stand for, after the number v
 unfoldable pub value : ℕ → List ℕ → ℕ
@@ -16,7 +16,7 @@ value v (d ∷ s) = value (v * 10 + (d - code "0")) s
 
 -- "k is 0 to 9,999 without leading zeros"
 unfoldable pub numeral : List ℕ → Bool
-numeral s = not (none s) && (eqb (length s) 1 || not (eqb (getD s 0 0) (code "0"))) && every digit s && leb (value 0 s) 9999
+numeral s = not (isEmpty s) && (eqb (length s) 1 || not (eqb (getD s 0 0) (code "0"))) && every digit s && leb (value 0 s) 9999
 
 -- the digits of n, up to so many of them
 unfoldable pub digits : ℕ → ℕ → List ℕ

@@ -6,14 +6,14 @@ use mathlib.Core.List.{List}
 use lib.Dec.{eqb}
 use lib.ListN.{length, getD, take, drop}
 use Rattle.chars.specs.Bytes.{slash, dot, underscore, within, letter, member}
-use Rattle.chars.specs.Lists.{none, every, indexOf, lacks, tiled}
+use Rattle.chars.specs.Lists.{isEmpty, every, indexOf, lacks, tiled}
 use Rattle.chars.specs.Characters.{unit}
 use Rattle.chars.specs.declared.search.Alphabet.the-variants.{Token, Id}
 use Rattle.chars.specs.declared.units.Grammar.the-variants.{Segment}
 
 -- "tokens as in RFC 7231"
 unfoldable pub token : List ℕ → Bool
-token s = not (none s) && every (member Token) s
+token s = not (isEmpty s) && every (member Token) s
 
 -- "A media type is token/token, 3 to 127 bytes" (a token holds no slash, so the first slash parts the two)
 unfoldable pub mediaType : List ℕ → Bool

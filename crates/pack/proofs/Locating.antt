@@ -11,7 +11,7 @@ use lib.Seq.{length-take-le, drop-drop}
 use borrow.Author.Tests.{not-true, not-false, eq-eqb, ne-eqb, lt-leb, le-leb}
 use Rattle.chars.specs.Bytes.{ascii}
 use Rattle.chars.specs.Folding.{equivalent, order}
-use Rattle.chars.specs.Lists.{none, same}
+use Rattle.chars.specs.Lists.{isEmpty, same}
 use Rattle.base.proofs.Lists.{take-rest}
 use Rattle.names.proofs.Reserved.{drop-take}
 use Rattle.iri.specs.Components.{authorityOf, pathOf, authorityLength, afterScheme}
@@ -41,7 +41,7 @@ module _ (s : List ℕ) (a b p q : ℕ) (h : SplitAt s a b p q) (x : Bool) (ex :
   two-less : length (drop 2 (authorityOf s)) ≡ b - a - 2
   two-less = length-drop 2 (authorityOf s) ∙ ap (λ (n : ℕ). n - 2) (authority-length s a b p q h)
 
-  form-is : packForm s ≡ x && not (eqb (b - a) 0) && leb (b - a - 2) 765 && eqb p (length s) && (none (pathOf s) || partOrRoot (pathOf s))
+  form-is : packForm s ≡ x && not (eqb (b - a) 0) && leb (b - a - 2) 765 && eqb p (length s) && (isEmpty (pathOf s) || partOrRoot (pathOf s))
   unfolding packForm
   form-is = rw (two-less, none-after s a b p q h, authority-length s a b p q h, ← (h .scheme), ← ex)
 
@@ -69,7 +69,7 @@ module _ (s : List ℕ) (a b p q : ℕ) (h : SplitAt s a b p q) (x : Bool) (ex :
         pub no-end : (p ≡ length s → ⊥) → packForm s ≡ false
         no-end e = form-is ∙ rw (hx, some, room, ne-eqb p (length s) e)
 
-        module _ (e : p ≡ length s) (y : Bool) (ey : y ≡ (none (take (length s - b) (drop b s)) || partOrRoot (take (length s - b) (drop b s)))) where
+        module _ (e : p ≡ length s) (y : Bool) (ey : y ≡ (isEmpty (take (length s - b) (drop b s)) || partOrRoot (take (length s - b) (drop b s)))) where
           path-is : pathOf s ≡ take (length s - b) (drop b s)
           path-is = sym (h .path) ∙ rw e
 

@@ -11,7 +11,7 @@ use lib.Seq.{length-take-le, take-all}
 use borrow.Author.Tests.{eqb-true, not-true, not-false}
 use Rattle.chars.specs.Bytes.{ascii}
 use Rattle.chars.specs.Folding.{equivalent}
-use Rattle.chars.specs.Lists.{none, same}
+use Rattle.chars.specs.Lists.{isEmpty, same}
 use Rattle.base.proofs.Bools.{and-right}
 use Rattle.base.proofs.Lists.{take-rest, length-take-few}
 use Rattle.iri.specs.Components.{pathOf, schemeOf, defined, authorityOf, queryOf, fragmentOf}
@@ -29,9 +29,9 @@ zero-take (x ∷ l) = refl
 module _ (s : List ℕ) (x y : ℕ) (h : Placed s x y) where
   pub pack-path-few : length (drop y s) ≤ 255
   unfolding packForm
-  pack-path-few = rw (h .path) at (go (none (pathOf s)) refl (and-right (equivalent (schemeOf s) (ascii "pack:") && defined (authorityOf s) && leb (length (drop 2 (authorityOf s))) 765 && (none (queryOf s) && none (fragmentOf s))) (none (pathOf s) || partOrRoot (pathOf s)) (h .form)))
+  pack-path-few = rw (h .path) at (go (isEmpty (pathOf s)) refl (and-right (equivalent (schemeOf s) (ascii "pack:") && defined (authorityOf s) && leb (length (drop 2 (authorityOf s))) 765 && (isEmpty (queryOf s) && isEmpty (fragmentOf s))) (isEmpty (pathOf s) || partOrRoot (pathOf s)) (h .form)))
     where
-      go : (q : Bool) → none (pathOf s) ≡ q → (q || partOrRoot (pathOf s)) ≡ true → length (pathOf s) ≤ 255
+      go : (q : Bool) → isEmpty (pathOf s) ≡ q → (q || partOrRoot (pathOf s)) ≡ true → length (pathOf s) ≤ 255
       go true e f = omega (arith, eqb-true (length (pathOf s)) 0 e)
       go false e f = part-or-root-few (pathOf s) f
 

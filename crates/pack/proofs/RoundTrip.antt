@@ -11,7 +11,7 @@ use lib.Seq.{take-append-seam, drop-append-seam, take-length, drop-length}
 use borrow.Author.Tests.{le-leb, ne-eqb, eqb-true}
 use Rattle.chars.specs.Bytes.{slash, ascii, member, numberSign}
 use Rattle.chars.specs.Folding.{equivalent, lower}
-use Rattle.chars.specs.Lists.{same, firstOf, lacks, none}
+use Rattle.chars.specs.Lists.{same, firstOf, lacks, isEmpty}
 use Rattle.chars.specs.declared.search.Alphabet.the-variants.{PathEnd, AuthorityEnd}
 use Rattle.base.proofs.Bools.{and-right, and-left, or-true}
 use Rattle.chars.proofs.Equivalence.{same-eq}
@@ -109,29 +109,29 @@ pack-iris-return p n hp hn =
 
 -- a path resolved against a base with an authority
 resolved-path : (b a n t : List ℕ) → schemeOf b ≡ ascii "pack:" → authorityOf b ≡ slash ∷ slash ∷ a → pathOf b ≡ n
-    → schemeOf t ≡ [] → authorityOf t ≡ [] → pathOf t ≡ t → none t ≡ false → queryOf t ≡ [] → fragmentOf t ≡ []
+    → schemeOf t ≡ [] → authorityOf t ≡ [] → pathOf t ≡ t → isEmpty t ≡ false → queryOf t ≡ [] → fragmentOf t ≡ []
     → resolve b t ≡ ascii "pack://" ++ (a ++ resolvePath n t)
 unfolding resolve recompose transform resolvePath
 resolved-path b a n t e1 e2 e3 e4 e5 e6 e7 e8 e9 =
     rw (e4, e5, e6, e7, e8, e9, e1, e2, e3, ne-eqb (suc (suc (length a))) 0 (λ q. absurd (omega arith)), append-nil (relativePath true n t))
 
 -- an internal target is a path
-none-nil : (l : List ℕ) → none l ≡ true → l ≡ []
+none-nil : (l : List ℕ) → isEmpty l ≡ true → l ≡ []
 none-nil [] e = refl
 none-nil (x ∷ l) e = absurd (omega (arith, eqb-true (suc (length l)) 0 e))
 
 module _ (t : List ℕ) (h : internal t ≡ true) where
   abbrev A : Bool
-  A = none (schemeOf t)
+  A = isEmpty (schemeOf t)
 
   abbrev B : Bool
-  B = none (authorityOf t)
+  B = isEmpty (authorityOf t)
 
   abbrev C : Bool
-  C = none (queryOf t)
+  C = isEmpty (queryOf t)
 
   abbrev D : Bool
-  D = none (fragmentOf t)
+  D = isEmpty (fragmentOf t)
 
   fragment-none : fragmentOf t ≡ []
   unfolding internal
@@ -155,7 +155,7 @@ module _ (t : List ℕ) (h : internal t ≡ true) where
       let e : schemeOf t ++ (authorityOf t ++ (pathOf t ++ (queryOf t ++ fragmentOf t))) ≡ t = components-return t in
       sym (append-nil (pathOf t)) ∙ (rw (scheme-none, authority-none, query-none, fragment-none) at e)
 
-  path-some : none t ≡ false
+  path-some : isEmpty t ≡ false
   unfolding internal
   path-some = ne-eqb (length t) 0 (λ z. absurd (omega (arith, iri-some t (and-left (iri t) A (and-left (iri t && A) B (and-left (iri t && A && B) C (and-left (iri t && A && B && C) D h)))))))
 

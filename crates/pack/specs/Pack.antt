@@ -7,7 +7,7 @@ use mathlib.Core.List.{List, [], _∷_, _++_, map}
 use lib.Dec.{leb, ltb, eqb}
 use lib.ListN.{length, take, drop, getD}
 use Rattle.chars.specs.Bytes.{ascii, slash, percent, colon, numberSign, hexDigit}
-use Rattle.chars.specs.Lists.{none, same, indexOf, lacks}
+use Rattle.chars.specs.Lists.{isEmpty, same, indexOf, lacks}
 use Rattle.chars.specs.Characters.{stands}
 use Rattle.chars.specs.Folding.{equivalent}
 use Rattle.names.specs.Names.{partName}
@@ -83,8 +83,8 @@ unfoldable pub packForm : List ℕ → Bool
 packForm s =
     equivalent (schemeOf s) (ascii "pack:")
     && defined (authorityOf s) && leb (length (drop 2 (authorityOf s))) 765
-    && (none (queryOf s) && none (fragmentOf s))
-    && (none (pathOf s) || partOrRoot (pathOf s))
+    && (isEmpty (queryOf s) && isEmpty (fragmentOf s))
+    && (isEmpty (pathOf s) || partOrRoot (pathOf s))
 
 -- the part name of a path, empty for the package
 abbrev pub partOf : List ℕ → List ℕ

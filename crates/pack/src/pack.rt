@@ -20,7 +20,7 @@ ghost use lib.Dec.{ltb};
 ghost use lib.ListN.{length};
 ghost use Rattle.chars.specs.Bytes.{ascii};
 ghost use Rattle.chars.specs.Classes.{classes};
-ghost use Rattle.chars.specs.Lists.{none};
+ghost use Rattle.chars.specs.Lists.{isEmpty};
 ghost use Rattle.chars.specs.Characters.{stands};
 ghost use Rattle.chars.specs.Folding.{equivalent};
 ghost use Rattle.pack.specs.Pack.{escape, escaped, packIri, partOrRoot, compose as composed, slashed, lowTriplet, unfragmentedIri, partOf, resolvePack, ofResolved, located};
@@ -212,7 +212,7 @@ fn is_pack(s: &[u8]) -> bool
 
 // Empty, / or a part name.
 fn is_path(p: &[u8]) -> bool
-    ensures { λ r. ⌜ r ≡ (none (now (p .entry)) || partOrRoot (now (p .entry))) ⌝ }
+    ensures { λ r. ⌜ r ≡ (isEmpty (now (p .entry)) || partOrRoot (now (p .entry))) ⌝ }
 {
     (p.len() == 0) | is_part_or_root(p)
 }

@@ -10,7 +10,7 @@ use lib.ListN.{length, take}
 use lib.Seq.{length-take-le}
 use borrow.Author.Tests.{not-true, not-false, lt-leb, le-leb, eq-eqb, ne-eqb}
 use Rattle.chars.specs.Bytes.{ascii}
-use Rattle.chars.specs.Lists.{same, none}
+use Rattle.chars.specs.Lists.{same, isEmpty}
 use Rattle.base.proofs.Bools.{and-left, and-assoc}
 use Rattle.chars.proofs.Equivalence.{same-eq}
 use Rattle.names.specs.Iris.{iri}
@@ -63,7 +63,7 @@ internal-no t i e q = rw (← e, not-true i q)
 pub internal-is : (t : List ℕ) (a b p q : ℕ) (i : Bool) → i ≡ iri t → not i ≡ false → SplitAt t a b p q → internal t ≡ eqb b 0 && eqb p (length t)
 unfolding internal
 internal-is t a b p q i e n h =
-    rw (← e, not-false i n) (and-assoc (none (schemeOf t) && none (authorityOf t)) (none (queryOf t)) (none (fragmentOf t)) ∙ rw (none-before t a b p q h, none-after t a b p q h))
+    rw (← e, not-false i n) (and-assoc (isEmpty (schemeOf t) && isEmpty (authorityOf t)) (isEmpty (queryOf t)) (isEmpty (fragmentOf t)) ∙ rw (none-before t a b p q h, none-after t a b p q h))
 
 -- the name that it resolves to
 module _ (source target : List ℕ) (i : Bool) (ei : i ≡ internal target) where
@@ -76,10 +76,10 @@ module _ (source target : List ℕ) (i : Bool) (ei : i ≡ internal target) wher
     unfolding internal
     target-few =
         let a = iri target in
-        let b = none (schemeOf target) in
-        let c = none (authorityOf target) in
-        let d = none (queryOf target) in
-        iri-few target (and-left a b (and-left (a && b) c (and-left (a && b && c) d (and-left (a && b && c && d) (none (fragmentOf target)) (sym ei ∙ not-false i qi)))))
+        let b = isEmpty (schemeOf target) in
+        let c = isEmpty (authorityOf target) in
+        let d = isEmpty (queryOf target) in
+        iri-few target (and-left a b (and-left (a && b) c (and-left (a && b && c) d (and-left (a && b && c && d) (isEmpty (fragmentOf target)) (sym ei ∙ not-false i qi)))))
 
     module _ (k : ℕ) (out : List ℕ) (r : Reached true source target k out) where
       is-path : take k out ≡ resolvePath source target

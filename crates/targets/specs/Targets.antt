@@ -6,7 +6,7 @@ use mathlib.Core.List.{List, []}
 use lib.Dec.{leb, eqb}
 use lib.ListN.{length}
 use Rattle.chars.specs.Bytes.{ascii}
-use Rattle.chars.specs.Lists.{none, same}
+use Rattle.chars.specs.Lists.{isEmpty, same}
 use Rattle.names.specs.Names.{partName, reserved}
 use Rattle.names.specs.Iris.{iri}
 use Rattle.iri.specs.Components.{schemeOf, authorityOf, queryOf, fragmentOf}
@@ -19,7 +19,7 @@ sourceRefusal s = cond (same s (ascii "/")) 0 (cond (partName s) (cond (reserved
 
 -- "an IRI without scheme, query, fragment or leading `//`"
 unfoldable pub internal : List ℕ → Bool
-internal t = iri t && none (schemeOf t) && none (authorityOf t) && none (queryOf t) && none (fragmentOf t)
+internal t = iri t && isEmpty (schemeOf t) && isEmpty (authorityOf t) && isEmpty (queryOf t) && isEmpty (fragmentOf t)
 
 -- "resolved against the source as base path" (such a base has an authority, as in a pack IRI; and the target is a path)
 unfoldable pub resolvePath : List ℕ → List ℕ → List ℕ
