@@ -7,8 +7,8 @@ use lib.Dec.{eqb}
 use lib.ListN.{length, getD, take}
 
 -- the text is empty
-abbrev pub none : List ℕ → Bool
-none s = eqb (length s) 0
+abbrev pub isEmpty : List ℕ → Bool
+isEmpty s = eqb (length s) 0
 
 -- byte for byte
 unfoldable pub same : List ℕ → List ℕ → Bool

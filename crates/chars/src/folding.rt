@@ -1,33 +1,17 @@
 // Folding, and what is compared by it.
+use crate::letters::is_same_letter;
+use crate::letters::to_lower;
 use crate::starts::same_start;
 use base::bytes::byte_at;
 ghost use mathlib.Core.Path.{_≡_};
 ghost use mathlib.Core.List.{map};
-ghost use lib.Dec.{eqb};
-ghost use Rattle.chars.specs.Folding.{lower, equivalent, derivable, order, foldedOrder, endsIn};
+ghost use Rattle.chars.specs.Folding.{equivalent, derivable, order, foldedOrder, endsIn};
 ghost use Rattle.chars.specs.Comparing.{inCase, byteOrder};
 
 pub enum Order {
     Less,
     Equal,
     Greater,
-}
-
-pub fn to_lower(b: u8) -> u8
-    ensures { λ r. ⌜ r ≡ lower b ⌝ }
-{
-    if b'A' <= b {
-        if b <= b'Z' {
-            return b + 32;
-        }
-    }
-    b
-}
-
-pub fn is_same_letter(x: u8, y: u8) -> bool
-    ensures { λ r. ⌜ r ≡ eqb (lower x) (lower y) ⌝ }
-{
-    to_lower(x) == to_lower(y)
 }
 
 pub fn is_equivalent(a: &[u8], b: &[u8]) -> bool

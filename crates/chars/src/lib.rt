@@ -1,5 +1,6 @@
-// Bytes and characters: folding, searching.
+// Bytes and characters: folded, compared, searched.
 pub mod folding;
+pub mod letters;
 pub mod search;
 pub mod starts;
 pub mod texts;

@@ -1,5 +1,5 @@
 // The same bytes at the beginning of two texts, eight at a time: names of a package mostly begin alike.
-use crate::folding::is_same_letter;
+use crate::letters::is_same_letter;
 use base::numbers::smaller;
 ghost use mathlib.Core.Path.{_≡_};
 ghost use mathlib.Core.Bool.{true, false};

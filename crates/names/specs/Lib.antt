@@ -4,4 +4,3 @@ pub mod Types
 pub mod Iris
 pub mod Numbers
 pub mod Reading
-pub mod Examples

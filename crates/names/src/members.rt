@@ -1,4 +1,13 @@
 // Texts of bytes of a set.
+use crate::table::BAR;
+use crate::table::COLON;
+use crate::table::DOT;
+use crate::table::NUMBER_SIGN;
+use crate::table::PLUS;
+use crate::table::QUESTION;
+use crate::table::SLASH;
+use crate::table::STAR;
+use crate::table::UNDERSCORE;
 use crate::table::class;
 use crate::table::table;
 use chars::search::Alphabet;
@@ -13,12 +22,12 @@ pub(crate) fn is_member(t: &[u8; 256], a: Alphabet, b: u8) -> bool
 {
     let k = class(t, b);
     match a {
-        Alphabet::Token => (k <= 7) | ((12 <= k) & (k <= 14)),
-        Alphabet::Scheme => (k <= 3) | (k == 6),
-        Alphabet::Id => k <= 4,
-        Alphabet::SchemeEnd => (9 <= k) & (k <= 12),
-        Alphabet::AuthorityEnd => (10 <= k) & (k <= 12),
-        Alphabet::PathEnd => (11 <= k) & (k <= 12),
+        Alphabet::Token => (k <= STAR) | ((NUMBER_SIGN <= k) & (k <= BAR)),
+        Alphabet::Scheme => (k <= DOT) | (k == PLUS),
+        Alphabet::Id => k <= UNDERSCORE,
+        Alphabet::SchemeEnd => (COLON <= k) & (k <= NUMBER_SIGN),
+        Alphabet::AuthorityEnd => (SLASH <= k) & (k <= NUMBER_SIGN),
+        Alphabet::PathEnd => (QUESTION <= k) & (k <= NUMBER_SIGN),
     }
 }
 

@@ -3,8 +3,47 @@ ghost use mathlib.Core.Path.{_≡_};
 ghost use Rattle.chars.specs.Bytes.{letter, digit, hexDigit};
 ghost use Rattle.chars.specs.Classes.{classes, Classed};
 
-// 0 digit, 1 A-F a-f, 2 other letter, 3 - and ., 4 _, 5 ~, 6 +, 7 ! $ & ' *, 8 ( ) , ; = @, 9 :, 10 /, 11 ?, 12 #, 13 %, 14 ^ ` |,
-// 15 other ASCII, 16 a continuation byte of UTF-8, 17, 18, 19 the first byte of two, three, four, 20 none of these.
+// The numbers of the classes that are asked for. 8 are ( ) , ; = @, 13 is %, 15 other ASCII, 20 none of all these.
+pub(crate) const DIGIT: u8 = 0;
+
+// A-F a-f.
+pub(crate) const HEX_LETTER: u8 = 1;
+
+// Any other letter.
+pub(crate) const LETTER: u8 = 2;
+
+// - and the dot.
+pub(crate) const DOT: u8 = 3;
+
+pub(crate) const UNDERSCORE: u8 = 4;
+
+pub(crate) const TILDE: u8 = 5;
+
+pub(crate) const PLUS: u8 = 6;
+
+// ! $ & ' *
+pub(crate) const STAR: u8 = 7;
+
+pub(crate) const COLON: u8 = 9;
+
+pub(crate) const SLASH: u8 = 10;
+
+pub(crate) const QUESTION: u8 = 11;
+
+pub(crate) const NUMBER_SIGN: u8 = 12;
+
+// ^ ` |
+pub(crate) const BAR: u8 = 14;
+
+// A byte that goes on a character of UTF-8, and the first byte of two, three, four.
+pub(crate) const CONTINUATION: u8 = 16;
+
+pub(crate) const LEAD2: u8 = 17;
+
+pub(crate) const LEAD3: u8 = 18;
+
+pub(crate) const LEAD4: u8 = 19;
+
 const CLASS: [u8; 256] = [
     15, 15, 15, 15, 15, 15, 15, 15, 15, 15, 15, 15, 15, 15, 15, 15,
     15, 15, 15, 15, 15, 15, 15, 15, 15, 15, 15, 15, 15, 15, 15, 15,
@@ -42,14 +81,14 @@ pub(crate) fn is_digit(t: &[u8; 256], b: u8) -> bool
     requires { ⌜ now t ≡ classes ⌝ }
     ensures { λ r. ⌜ r ≡ digit b ⌝ }
 {
-    class(t, b) == 0
+    class(t, b) == DIGIT
 }
 
 pub fn is_hex_digit(t: &[u8; 256], b: u8) -> bool
     requires { ⌜ now t ≡ classes ⌝ }
     ensures { λ r. ⌜ r ≡ hexDigit b ⌝ }
 {
-    class(t, b) <= 1
+    class(t, b) <= HEX_LETTER
 }
 
 pub(crate) fn is_letter(t: &[u8; 256], b: u8) -> bool
@@ -57,5 +96,5 @@ pub(crate) fn is_letter(t: &[u8; 256], b: u8) -> bool
     ensures { λ r. ⌜ r ≡ letter b ⌝ }
 {
     let k = class(t, b);
-    (1 <= k) & (k <= 2)
+    (HEX_LETTER <= k) & (k <= LETTER)
 }

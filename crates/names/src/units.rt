@@ -1,4 +1,11 @@
 // Units: a byte that stands for itself, a triplet, a character of ucschar.
+use crate::table::COLON;
+use crate::table::CONTINUATION;
+use crate::table::LEAD2;
+use crate::table::LEAD3;
+use crate::table::LEAD4;
+use crate::table::NUMBER_SIGN;
+use crate::table::TILDE;
 use crate::table::class;
 use crate::table::is_hex_digit;
 use base::bytes::byte_at;
@@ -14,14 +21,14 @@ fn is_unreserved(t: &[u8; 256], b: u8) -> bool
     requires { ⌜ now t ≡ classes ⌝ }
     ensures { λ r. ⌜ r ≡ unreserved b ⌝ }
 {
-    class(t, b) <= 5
+    class(t, b) <= TILDE
 }
 
 fn is_continuation(t: &[u8; 256], b: u8) -> bool
     requires { ⌜ now t ≡ classes ⌝ }
     ensures { λ r. ⌜ r ≡ continuation b ⌝ }
 {
-    class(t, b) == 16
+    class(t, b) == CONTINUATION
 }
 
 fn is_single(t: &[u8; 256], g: Grammar, b: u8) -> bool
@@ -30,8 +37,8 @@ fn is_single(t: &[u8; 256], g: Grammar, b: u8) -> bool
 {
     let k = class(t, b);
     match g {
-        Grammar::Segment => k <= 9,
-        Grammar::Iri => k <= 12,
+        Grammar::Segment => k <= COLON,
+        Grammar::Iri => k <= NUMBER_SIGN,
     }
 }
 
@@ -80,7 +87,7 @@ fn is_char2(t: &[u8; 256], a: u8, b: u8) -> bool
     ensures { λ r. ⌜ r ≡ char2 a b ⌝ }
 {
     let v = (a as u32) % 32 * 64 + (b as u32) % 64;
-    (class(t, a) == 17) & is_continuation(t, b) & is_ucschar(v)
+    (class(t, a) == LEAD2) & is_continuation(t, b) & is_ucschar(v)
 }
 
 fn is_char3(t: &[u8; 256], a: u8, b: u8, c: u8) -> bool
@@ -88,7 +95,7 @@ fn is_char3(t: &[u8; 256], a: u8, b: u8, c: u8) -> bool
     ensures { λ r. ⌜ r ≡ char3 a b c ⌝ }
 {
     let v = (a as u32) % 16 * 4096 + (b as u32) % 64 * 64 + (c as u32) % 64;
-    (class(t, a) == 18)
+    (class(t, a) == LEAD3)
         & is_continuation(t, b)
         & is_continuation(t, c)
         & (0x800 <= v)
@@ -103,7 +110,7 @@ fn is_char4(t: &[u8; 256], a: u8, b: u8, c: u8, d: u8) -> bool
         + (b as u32) % 64 * 4096
         + (c as u32) % 64 * 64
         + (d as u32) % 64;
-    (class(t, a) == 19)
+    (class(t, a) == LEAD4)
         & is_continuation(t, b)
         & is_continuation(t, c)
         & is_continuation(t, d)

@@ -1,8 +1,8 @@
 use borrow.Author.Tests.{le-leb, lt-leb}
 use Rattle.chars.specs.Folding.{lower}
 use borrow.Author.Needs.{needs}
-use Rattle.chars.proofs.folding.to_lower.Statement.{statement}
-use Rattle.chars.proofs.folding.to_lower.Tie as tie
+use Rattle.chars.proofs.letters.to_lower.Statement.{statement}
+use Rattle.chars.proofs.letters.to_lower.Tie as tie
 
 returns : tie.Need-returns
 unfolding lower

@@ -1,6 +1,6 @@
 use borrow.Author.Needs.{needs}
-use Rattle.chars.proofs.folding.is_same_letter.Statement.{statement}
-use Rattle.chars.proofs.folding.is_same_letter.Tie as tie
+use Rattle.chars.proofs.letters.is_same_letter.Statement.{statement}
+use Rattle.chars.proofs.letters.is_same_letter.Tie as tie
 
 returns : tie.Need-returns
 returns c = rw (c .to-lower2 .ensures, c .before .to-lower .ensures)
