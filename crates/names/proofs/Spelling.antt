@@ -14,7 +14,7 @@ use borrow.Author.Tests.{le-leb, lt-ltb, ltb-true, ltb-false, ne-eqb, not-true}
 use Rattle.chars.specs.Bytes.{ascii, slash, openBracket, closeBracket, digit, letter, hexDigit, unreserved, segmentByte}
 use Rattle.chars.specs.Lists.{same, every, firstOf, indexOf, afterLast}
 use Rattle.chars.specs.Folding.{lower, equivalent}
-use Rattle.base.proofs.Bools.{and-true}
+use Rattle.base.proofs.Bools.{and-true, or-true}
 use Rattle.chars.proofs.Searches.{index-append, last-none, last-append, last-pos, every-append, every-imp, every-getD}
 use Rattle.chars.proofs.UnitBytes.{but, class-but}
 use Rattle.names.specs.Numbers.{value, numeral, digits, decimal4}
