@@ -17,7 +17,8 @@ use Rattle.store.specs.Layout.{countOf, usedOf, capOf, slotCount}
 use Rattle.contract.specs.Rows.{keyIn}
 use Rattle.contract.specs.Holds.{Holds}
 use Rattle.contract.specs.Searches.{Bounded, Counted}
-use Rattle.contract.proofs.RowCharges.{used-charge, count-rows, length-others}
+use Rattle.contract.proofs.RowKinds.{length-rows}
+use Rattle.contract.proofs.RowCharges.{used-charge, count-rows}
 use Rattle.items.specs.Clashes.{Clashing, Cleared}
 use Rattle.base.proofs.Bools.{or-right}
 
@@ -56,7 +57,7 @@ module _ (b s : Bytes) (size r : ℕ) (accepted : itemField s ≡ 0) (k : ℕ) (
     module _ (few : m < 256) where
       pub cleared-slots : (c : ℕ) → c ≡ countOf b → slotCount ≤ c → Cleared b s size r 15
       cleared-slots c e l = full (λ S h.
-          absurd (omega (arith, count-rows b S h, length-others S, ec .is S h, h .good .defaults .few, h .good .overrides .few, h .good .relationships .few)))
+          absurd (omega (arith, count-rows b S h, length-rows S, ec .is S h, h .good .defaults .few, h .good .overrides .few, h .good .relationships .few)))
 
       module _ (f : ℕ) (ef : f + usedOf b ≡ capOf b) where
         over : f < length s + size → Cleared b s size r 15

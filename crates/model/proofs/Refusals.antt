@@ -1,12 +1,12 @@
 -- A list of refusals, and what it says where none is met.
 -- Assumes nothing.
 use Prim.Native.Nat.{ℕ, _+_, _≤_, _<_}
-use mathlib.Core.Path.{_≡_, refl}
+use mathlib.Core.Path.{_≡_, refl, sym, _∙_}
 use mathlib.Core.Bool.{Bool, true, false, cond}
 use mathlib.Core.List.{List, [], _∷_, _++_}
 use native.Mathlib.Omega.{arith}
 use lib.Dec.{eqb, leb, ltb}
-use borrow.Author.Tests.{eqb-true, eqb-false, leb-false, ltb-false, eq-eqb}
+use borrow.Author.Tests.{eqb-true, eqb-false, leb-false, ltb-false, eq-eqb, ne-eqb}
 use Rattle.model.specs.Sets.{Each}
 use Rattle.model.specs.Fields.{when, first}
 use Rattle.model.specs.Good.{Good}
@@ -39,6 +39,30 @@ first-append (m ∷ ms) ns = go (eqb m 0) refl (first-append ms ns)
         cond b (first (ms ++ ns)) m ≡ cond (eqb (cond b (first ms) m) 0) (first ns) (cond b (first ms) m)
     go true e h = h
     go false e h = rw e
+
+-- a list whose first is met, or is not
+pub first-met : (n : ℕ) (ns : List ℕ) → (n ≡ 0 → ⊥) → first (n ∷ ns) ≡ n
+unfolding first
+first-met n ns z = rw (ne-eqb n 0 z)
+
+pub first-unmet : (n : ℕ) (ns : List ℕ) → n ≡ 0 → first (n ∷ ns) ≡ first ns
+unfolding first
+first-unmet n ns e = rw (eq-eqb n 0 e)
+
+pub first-one : (n : ℕ) → first (n ∷ []) ≡ n
+unfolding first
+first-one n = go (eqb n 0) refl
+  where
+    go : (t : Bool) → eqb n 0 ≡ t → cond t 0 n ≡ n
+    go true e = sym (eqb-true n 0 e)
+    go false e = refl
+
+-- two lists of which the first has a refusal that is met, or has none
+pub first-front : (ms ns : List ℕ) → (first ms ≡ 0 → ⊥) → first (ms ++ ns) ≡ first ms
+first-front ms ns z = first-append ms ns ∙ first-met (first ms) ns z
+
+pub first-past : (ms ns : List ℕ) → first ms ≡ 0 → first (ms ++ ns) ≡ first ns
+first-past ms ns z = first-append ms ns ∙ first-unmet (first ms) ns z
 
 pub unmet : (b : Bool) (n : ℕ) → 0 < n → when b n ≡ 0 → b ≡ false
 unmet true n l e = absurd (omega arith)

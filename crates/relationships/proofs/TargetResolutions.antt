@@ -28,39 +28,38 @@ use Rattle.model.specs.Fields.{when, first, sourceField, idField, packageField}
 use Rattle.model.specs.Package.{relationshipKind, State, Relationship, relationshipKey, keyOfRelationship, group, isPart}
 use Rattle.model.specs.Calls.{Prints, ResolveRelationship, Numbered, flag, resolved, printed, withRelationships}
 use Rattle.model.proofs.Numbers.{numbered, zero-numbered, resolve-fields-numbered}
-use Rattle.model.proofs.Refusals.{all-none, unmet}
+use Rattle.model.proofs.Refusals.{first-one, first-front, first-past, all-none, unmet}
 use Rattle.model.proofs.Lookups.{lookup-each}
 use Rattle.model.proofs.Targets.{fielded, target-size}
 use Rattle.store.specs.Layout.{countOf}
 use Rattle.store.specs.Rows.{Row, rowAt, tagAt, rowsOf, fieldOf}
 use Rattle.store.specs.Packages.{Shape, Sound}
-use Rattle.contract.specs.Rows.{keyIn, rowKey, relationshipRow}
+use Rattle.contract.specs.Rows.{second, keyIn, rowKey, relationshipRow, relationshipRows}
 use Rattle.contract.specs.Holds.{Holds}
 use Rattle.contract.specs.Entries.{Sought}
 use Rattle.contract.specs.Ran.{Ran}
 use Rattle.contract.specs.Opening.{Open}
 use Rattle.contract.proofs.Rans.{wrote}
 use Rattle.contract.proofs.FieldSizes.{source-size}
-use Rattle.contract.proofs.FirstRefusals.{first-one}
 use Rattle.contract.proofs.RowOrders.{holds-ordered}
 use Rattle.contract.proofs.RowEntries.{row-here, row-none}
 use Rattle.contract.proofs.SetRows.{rowFor}
-use Rattle.contract.proofs.SetStates.{found-row, relationships-among}
+use Rattle.contract.proofs.RowKinds.{relationship-rows}
+use Rattle.contract.proofs.SetStates.{found-row}
 use Rattle.parts.specs.Runs.{PartOf}
 use Rattle.parts.proofs.TextAnswers.{text-numbered}
 use Rattle.relationships.specs.Resolutions.{ofResolution, LedTo, RowResolved}
 use Rattle.relationships.specs.declared.resolving.Resolution.the-variants as resolution
-use Rattle.relationships.proofs.RelationshipCalls.{first-of-two, first-past-two, key-is}
 
 -- WHAT IS ASKED FOR; k is the key's refusal
 module _ (s i b : Bytes) (k : ℕ) (ek : k ≡ first (sourceField s ∷ idField i ∷ [])) where
   pub asked-key : (k ≡ 0 → ⊥) → k ≡ first (sourceField s ∷ idField i ∷ packageField b ∷ [])
-  asked-key z = sym (first-of-two (sourceField s) (idField i) (packageField b ∷ []) k (sym ek) z)
+  asked-key z = ek ∙ sym (first-front (sourceField s ∷ idField i ∷ []) (packageField b ∷ []) (λ e. z (ek ∙ e)))
 
   module _ (z : k ≡ 0) (y : Bool) (ey : y ≡ packageIri b) where
     base-is : (t : Bool) → y ≡ t → first (sourceField s ∷ idField i ∷ packageField b ∷ []) ≡ when (not t) 9
     base-is t e =
-        first-past-two (sourceField s) (idField i) (packageField b ∷ []) (sym ek ∙ z) ∙ first-one (packageField b) ∙ ap (λ (t : Bool). when (not t) 9) (sym ey ∙ e)
+        first-past (sourceField s ∷ idField i ∷ []) (packageField b ∷ []) (sym ek ∙ z) ∙ first-one (packageField b) ∙ ap (λ (t : Bool). when (not t) 9) (sym ey ∙ e)
 
     pub asked-fine : y ≡ true → 0 ≡ first (sourceField s ∷ idField i ∷ packageField b ∷ [])
     asked-fine e = sym (base-is true e)
@@ -197,7 +196,8 @@ module _ (p : List ℕ) (o : Open p) (s i base out : Bytes) (k : ℕ) (ek : k �
     -- r is the row of the key
     module _ (r m : ℕ) (er : Sought p (keyIn 3 s 0 i) r) (em : m ≡ countOf p) where
       row-is : (S : State) → Holds p S → rowFor relationshipRow (sought S) ≡ lookup rowKey (keyIn 3 s 0 i) (rowsOf p)
-      row-is S h = sym (rw (key-is s i) (found-row keyOfRelationship relationshipRow 3 S (S .relationships) (withRelationships S) (relationships-among S) p h (relationshipKey s i)))
+      unfolding second
+      row-is S h = sym (found-row relationshipRows relationship-rows p S h (relationshipKey s i))
 
       pub resolve-missing : m ≤ r → Ran (Prints (ResolveRelationship s i base) out) p (ofResolution (resolution.Refused 13) out) p
       unfolding filled resolved

@@ -24,15 +24,15 @@ use Rattle.model.proofs.Lists.{slice-map, slice-append}
 use Rattle.model.proofs.Joins.{flatMap-append, flatMap-map}
 use Rattle.model.proofs.Groups.{tilde, source-between}
 use Rattle.store.specs.Rows.{Row, rowsOf}
-use Rattle.contract.specs.Rows.{itemRow, defaultRow, overrideRow, relationshipRow, otherRows, rowsFor, second, keyIn, rowKey}
+use Rattle.contract.specs.Rows.{itemRow, defaultRow, overrideRow, relationshipRow, relationshipRows, otherRows, rowsFor, second, keyIn, rowKey}
 use Rattle.contract.specs.Holds.{Holds}
 use Rattle.contract.specs.Searches.{Bounded}
 use Rattle.contract.specs.Ran.{Ran}
 use Rattle.contract.specs.Opening.{Open}
+use Rattle.contract.proofs.RowKinds.{relationship-rows}
 use Rattle.contract.proofs.RowOrders.{set-bound, holds-ordered}
 use Rattle.contract.proofs.ItemRows.{item-count}
 use Rattle.contract.proofs.SetRows.{none-before}
-use Rattle.contract.proofs.SetStates.{relationships-among}
 use Rattle.parts.proofs.TextAnswers.{text-refused}
 use Rattle.streams.specs.EntryLines.{lineOf}
 use Rattle.streams.specs.Streams.{linesOf, streamOf, Answered}
@@ -55,12 +55,10 @@ module _ (S : State) where
 module _ (b : List ℕ) (S : State) (h : Holds b S) where
   -- where a key stands among the relationships
   relationship-bound : (p id : Bytes) (r : ℕ) → Bounded b (keyIn 3 p 0 id) r → r ≡ length (I S ++ (D S ++ O S)) + bound keyOfRelationship (fold p, id) (S .relationships)
-  unfolding second relationships-among
+  unfolding second relationship-rows
   relationship-bound p id r e =
-      let A = relationships-among S in
-      e .is (holds-ordered b S h)
-      ∙ ap (λ (rs : List Row). bound rowKey (3 ∷ fold p, id) rs) (h .lies .rows ∙ A .own)
-      ∙ set-bound keyOfRelationship relationshipRow 3 (A .keyed) (fold p, id) (A .front) (A .back) (S .relationships) (A .below) (A .above)
+      e .is (holds-ordered b S h) ∙ ap (λ (rs : List Row). bound rowKey (3 ∷ fold p, id) rs) (h .lies .rows)
+      ∙ set-bound relationshipRows relationship-rows (fold p, id) S
 
   -- TYPES: from the least key of the Defaults to that of the relationships
   module _ (f t : ℕ) (ef : Bounded b (keyIn 1 [] 0 []) f) (et : Bounded b (keyIn 3 [] 0 []) t) where

@@ -18,12 +18,12 @@ use Rattle.names.specs.Names.{partName, lastSegment, extensionAt}
 use Rattle.model.specs.Sets.{Bytes, lookup}
 use Rattle.model.specs.Fields.{first}
 use Rattle.model.specs.Package.{State, Default, Override, nameKey, keyOfDefault, keyOfOverride, typeOf, typeOfDefault, defaultFor, mediaTypeOf}
-use Rattle.model.specs.Calls.{Prints, MediaType, printed, withDefaults, withOverrides}
+use Rattle.model.specs.Calls.{Prints, MediaType, printed}
 use Rattle.model.proofs.Numbers.{numbered}
 use Rattle.store.specs.Layout.{countOf}
 use Rattle.store.specs.Rows.{Row, rowAt, rowsOf, fieldOf}
 use Rattle.store.specs.Packages.{Sound}
-use Rattle.contract.specs.Rows.{second, keyIn, rowKey, defaultRow, overrideRow}
+use Rattle.contract.specs.Rows.{second, keyIn, rowKey, defaultRow, overrideRow, defaultRows, overrideRows}
 use Rattle.contract.specs.Holds.{Holds}
 use Rattle.contract.specs.Entries.{Sought}
 use Rattle.contract.specs.Ran.{Ran}
@@ -31,7 +31,8 @@ use Rattle.contract.specs.Opening.{Open}
 use Rattle.contract.proofs.RowOrders.{holds-ordered}
 use Rattle.contract.proofs.RowEntries.{row-here, row-none}
 use Rattle.contract.proofs.SetRows.{rowFor}
-use Rattle.contract.proofs.SetStates.{found-row, overrides-among, defaults-among}
+use Rattle.contract.proofs.RowKinds.{override-rows, default-rows}
+use Rattle.contract.proofs.SetStates.{found-row}
 use Rattle.parts.specs.Runs.{PartOf}
 use Rattle.parts.proofs.TextAnswers.{text-refused, text-answered}
 use Rattle.types.specs.TypeRows.{Typed}
@@ -58,11 +59,11 @@ default-none (some x) e = absurd (Option·none-ne-some (defaultRow x) (sym e))
 module _ (b : List ℕ) (S : State) (h : Holds b S) (s : Bytes) where
   override-row : lookup rowKey (keyIn 2 s 0 []) (rowsOf b) ≡ rowFor overrideRow (lookup keyOfOverride (nameKey s) (S .overrides))
   unfolding second
-  override-row = found-row keyOfOverride overrideRow 2 S (S .overrides) (withOverrides S) (overrides-among S) b h (nameKey s)
+  override-row = found-row overrideRows override-rows b S h (nameKey s)
 
   default-row : lookup rowKey (keyIn 1 s 0 []) (rowsOf b) ≡ rowFor defaultRow (lookup keyOfDefault (nameKey s) (S .defaults))
   unfolding second
-  default-row = found-row keyOfDefault defaultRow 1 S (S .defaults) (withDefaults S) (defaults-among S) b h (nameKey s)
+  default-row = found-row defaultRows default-rows b S h (nameKey s)
 
 pub extension-le : (s : Bytes) → extensionAt s ≤ length s
 unfolding extensionAt

@@ -1,7 +1,10 @@
 use mathlib.Core.Path.{refl}
 use Rattle.model.specs.Calls.{Changes, DropRelationship}
 use Rattle.contract.proofs.Opening.{turned-away, let-in}
-use Rattle.relationships.proofs.RelationshipCalls.{drop-refused, drop-ran}
+use Rattle.contract.specs.Rows.{second, relationshipRows}
+use Rattle.contract.proofs.RowKinds.{relationship-rows}
+use Rattle.contract.proofs.SetCalls.{drop-refused, drop-ran}
+use Rattle.relationships.proofs.RelationshipCalls.{dropping}
 use borrow.Author.Needs.{needs}
 use Rattle.relationships.proofs.calls.drop_relationship.Statement.{statement}
 use Rattle.relationships.proofs.calls.drop_relationship.Tie as tie
@@ -19,8 +22,8 @@ returns-2 c =
     let at-if1 = at-key-refusal .before in
     let at-opened = at-if1 .before in
     let args = at-opened .before .before .before .before .before .args in
-    drop-refused _ (let-in _ _ (at-opened .opened .ensures) (at-if1 .if1 .left)) (args .source .now) (args .id .now) _
-    (at-key-refusal .key-refusal .ensures) (c .if2 .taken)
+    drop-refused relationshipRows relationship-rows _ (let-in _ _ (at-opened .opened .ensures) (at-if1 .if1 .left)) _ _ _ _
+    (dropping (args .source .now) (args .id .now)) (at-key-refusal .key-refusal .ensures) (c .if2 .taken)
 
 drop-row-requires : tie.Need-drop-row-requires
 drop-row-requires c κs =
@@ -29,6 +32,7 @@ drop-row-requires c κs =
     let-in _ _ (opened .ensures) (at-if1 .if1 .left) .shape
 
 returns-3 : tie.Need-returns-3
+unfolding second
 returns-3 c =
     let at-drop-row = c .before .before in
     let at-if2 = at-drop-row .before .before in
@@ -36,8 +40,9 @@ returns-3 c =
     let at-if1 = at-key-refusal .before in
     let at-opened = at-if1 .before in
     let args = at-opened .before .before .before .before .before .args in
-    drop-ran _ (let-in _ _ (at-opened .opened .ensures) (at-if1 .if1 .left)) (args .source .now) (args .id .now) _
-    (at-key-refusal .key-refusal .ensures) (at-if2 .if2 .left) _ _ (at-drop-row .drop-row .kept .0) (at-drop-row .drop-row .ensures)
+    drop-ran relationshipRows relationship-rows _ (let-in _ _ (at-opened .opened .ensures) (at-if1 .if1 .left)) _ _ _ _
+    (dropping (args .source .now) (args .id .now)) (at-key-refusal .key-refusal .ensures) (at-if2 .if2 .left) _ _
+    (at-drop-row .drop-row .kept .0) (at-drop-row .drop-row .ensures)
 
 pub drop-relationship-spec : {M : Type 1} → statement M
 drop-relationship-spec =

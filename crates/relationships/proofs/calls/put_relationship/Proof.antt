@@ -2,7 +2,10 @@ use mathlib.Core.Path.{refl, sym, _∙_}
 use native.Mathlib.Omega.{arith}
 use Rattle.model.specs.Calls.{Changes, PutRelationship}
 use Rattle.contract.proofs.Opening.{turned-away, let-in}
-use Rattle.relationships.proofs.RelationshipCalls.{source-some, mode-small, put-refused, put-ran}
+use Rattle.contract.specs.Rows.{relationshipRow, relationshipRows}
+use Rattle.contract.proofs.RowKinds.{relationship-rows}
+use Rattle.contract.proofs.SetCalls.{put-refused, put-ran}
+use Rattle.relationships.proofs.RelationshipCalls.{source-some, mode-small, putting}
 use borrow.Author.Needs.{needs}
 use Rattle.relationships.proofs.calls.put_relationship.Statement.{statement}
 use Rattle.relationships.proofs.calls.put_relationship.Tie as tie
@@ -20,8 +23,9 @@ returns-2 c =
     let at-if1 = at-fields-refusal .before in
     let at-opened = at-if1 .before in
     let args = at-opened .before .before .before .before .before .before .before .args in
-    put-refused _ (let-in _ _ (at-opened .opened .ensures) (at-if1 .if1 .left)) (args .source .now) (args .id .now)
-    (args .kind .now) (args .mode) (args .target .now) _ (at-fields-refusal .fields-refusal .ensures) (c .if2 .taken)
+    put-refused relationshipRows relationship-rows _ (let-in _ _ (at-opened .opened .ensures) (at-if1 .if1 .left)) _ _ _
+    (putting (args .source .now) (args .id .now) (args .kind .now) (args .mode) (args .target .now))
+    (at-fields-refusal .fields-refusal .ensures) (c .if2 .taken)
 
 add-put-row : tie.Need-add-put-row
 add-put-row c =
@@ -46,6 +50,7 @@ put-row-requires c κs =
     (at-args .args .target .now) (sym (at-fields-refusal .fields-refusal .ensures) ∙ at-if2 .if2 .left), omega arith))
 
 returns-3 : tie.Need-returns-3
+unfolding relationshipRow
 returns-3 c =
     let at-put-row = c .before .before in
     let at-if2 = at-put-row .before .before in
@@ -53,9 +58,9 @@ returns-3 c =
     let at-if1 = at-fields-refusal .before in
     let at-opened = at-if1 .before in
     let args = at-opened .before .before .before .before .before .before .before .args in
-    put-ran _ (let-in _ _ (at-opened .opened .ensures) (at-if1 .if1 .left)) (args .source .now) (args .id .now) (args .kind .now)
-    (args .mode) (args .target .now) _ (at-fields-refusal .fields-refusal .ensures) (at-if2 .if2 .left) _ _ (at-put-row .put-row .kept .0)
-    (at-put-row .put-row .ensures)
+    put-ran relationshipRows relationship-rows _ (let-in _ _ (at-opened .opened .ensures) (at-if1 .if1 .left)) _ _ _
+    (putting (args .source .now) (args .id .now) (args .kind .now) (args .mode) (args .target .now))
+    (at-fields-refusal .fields-refusal .ensures) (at-if2 .if2 .left) _ _ (at-put-row .put-row .kept .0) (at-put-row .put-row .ensures)
 
 pub put-relationship-spec : {M : Type 1} → statement M
 put-relationship-spec =
