@@ -1,21 +1,11 @@
 use Rattle.contract.proofs.Rans.{opened-shape}
-use Rattle.commands.proofs.LineRuns.{listed-foreign}
+use Rattle.commands.proofs.LineRuns.{listing-foreign}
 use borrow.Author.Needs.{needs}
 use Rattle.commands.proofs.running.run_list.Statement.{statement}
 use Rattle.commands.proofs.running.run_list.Tie as tie
 
-returns : tie.Need-returns
-returns c =
-    let at-put-answer = c .before .before in
-    let at-if1 = at-put-answer .before .before in
-    let is-package = at-if1 .before .is-package in
-    listed-foreign _ _ (is-package .ensures) (at-if1 .if1 .taken) 1 _ _ _ (at-put-answer .put-answer .ensures)
-
-put-listing-requires : tie.Need-put-listing-requires
-put-listing-requires c κs = opened-shape _ _ (c .before .before .is-package .ensures) (c .before .if1 .left)
-
 pub run-list-spec : {M : Type 1} → statement M
 run-list-spec =
-    tie.close
-    (tie.spec
-    (λ c κs. search needs) (λ c κs. search needs) (λ c. search needs) returns put-listing-requires (λ c. search needs) (λ c. search needs))
+    tie.close (tie.spec
+    (λ c κs. search needs) (λ c κs. search needs) (λ c. search needs) (λ c. search listing-foreign) (λ c κs. search opened-shape)
+    (λ c. search needs) (λ c. search needs))
