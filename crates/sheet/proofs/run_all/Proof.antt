@@ -64,8 +64,7 @@ returns c =
 
 pub run-all-spec : {M : Type 1} → statement M
 run-all-spec =
-    tie.close
-    (tie.spec
-    Inv-loop μ-loop (λ c. (refl, refl, refl, refl, c .before .before .before .before .pre)) run-some-requires sub-turns loop-less loop-again
-    same-length same-length-2 same-length-3 same-length-4 returns (λ c. c .before .loop .inv .0) (λ c. c .before .loop .inv .1)
+    tie.close (tie.spec
+    Inv-loop μ-loop (λ c. (refl, refl, refl, refl, c .before .before .before .before .pre)) run-some-requires sub-turns loop-less
+    loop-again same-length same-length-2 same-length-3 same-length-4 returns (λ c. c .before .loop .inv .0) (λ c. c .before .loop .inv .1)
     (λ c. c .before .loop .inv .2) (λ c. c .before .loop .inv .3) (λ c. c .before .loop .inv .4))
