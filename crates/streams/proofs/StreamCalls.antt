@@ -35,7 +35,7 @@ use Rattle.contract.proofs.SetRows.{none-before}
 use Rattle.contract.proofs.SetStates.{relationships-among}
 use Rattle.parts.proofs.TextAnswers.{text-refused}
 use Rattle.streams.specs.EntryLines.{lineOf}
-use Rattle.streams.specs.Streams.{linesOf, streamOf, Answered}
+use Rattle.streams.specs.Streams.{rowLines, streamOf, Answered}
 use Rattle.streams.proofs.LineTexts.{default-row-line, override-row-line, relationship-row-line}
 use Rattle.streams.proofs.StreamAnswers.{stream-ran}
 
@@ -78,7 +78,7 @@ module _ (b : List ℕ) (S : State) (h : Holds b S) where
         let e : rowsOf b ≡ I S ++ (X ++ R S) = h .lies .rows ∙ ap (λ (l : List Row). I S ++ l) (sym (append-assoc (D S) (O S) (R S))) in
         rw (a, c, e) (slice-append (I S) (X ++ R S) 0 (length X) ∙ take-append-seam X (R S))
 
-    types-lines : linesOf f t (rowsOf b) ≡ joined defaultLine (S .defaults) ++ joined overrideLine (S .overrides)
+    types-lines : rowLines f t (rowsOf b) ≡ joined defaultLine (S .defaults) ++ joined overrideLine (S .overrides)
     types-lines =
         ap (joined lineOf) types-rows
         ∙ joined-append lineOf (D S) (O S)

@@ -1,6 +1,6 @@
 // A stream with the lines of a run of rows.
-use crate::markup::put_relationship;
-use crate::markup::put_type;
+use crate::markup::put_relationship_line;
+use crate::markup::put_type_line;
 use iri::writing::Written;
 use iri::writing::emit;
 use store::header::used;
@@ -22,7 +22,7 @@ fn put_line(pkg: &[u8], i: usize, out: &mut [u8], at: usize) -> usize
 {
     let t = tag(pkg, i);
     if t == 32768 {
-        return put_type(
+        return put_type_line(
             out,
             at,
             b"<Default Extension=\"",
@@ -31,7 +31,7 @@ fn put_line(pkg: &[u8], i: usize, out: &mut [u8], at: usize) -> usize
         );
     }
     if t == 32769 {
-        return put_type(
+        return put_type_line(
             out,
             at,
             b"<Override PartName=\"",
@@ -39,7 +39,7 @@ fn put_line(pkg: &[u8], i: usize, out: &mut [u8], at: usize) -> usize
             field(pkg, i, 1),
         );
     }
-    put_relationship(
+    put_relationship_line(
         out,
         at,
         t,
