@@ -11,7 +11,7 @@ use Rattle.iri.specs.Answers.{Answer}
 use Rattle.model.specs.Sets.{Bytes}
 use Rattle.model.specs.Calls.{Call, refused}
 use Rattle.store.specs.Buffer.{splice}
-use Rattle.script.specs.Calls.{headSize, roomOf, sizeOf, between, coded, isCall, callIn}
+use Rattle.script.specs.Calls.{headSize, roomOf, callSize, between, coded, isCall, callIn}
 use Rattle.script.specs.declared.heads.Head.{Head}
 use Rattle.script.specs.Reading.{Called}
 use Rattle.abi.specs.declared.replies.Reply.{Reply}
