@@ -25,16 +25,16 @@ up : (w : ℕ) → 0 < w → suc (w - 1) ≡ w
 up w h = omega arith
 
 -- all columns but the last, then the last
-module _ {o o₁ o₂ : Bytes} {at w m n : ℕ} (some : 0 < w) (l : length o₁ ≡ length o) where
-  pub sent-padded : (v : ℕ) {x : ℕ} → x ≡ cellOf v → Sent o at (padded (w - 1) (v / 10)) m o₁ → Sent o₁ m (x ∷ []) n o₂ → Sent o at (padded w v) n o₂
-  sent-padded v {x} e r s =
+module _ {o o₁ o₂ : Bytes} {at w m n : ℕ} (l : length o₁ ≡ length o) where
+  pub sent-padded : (w ≡ 0 → ⊥) → (v : ℕ) {x : ℕ} → x ≡ cellOf v → Sent o at (padded (w - 1) (v / 10)) m o₁ → Sent o₁ m (x ∷ []) n o₂ → Sent o at (padded w v) n o₂
+  sent-padded z v {x} e r s =
       sent-as o o₂ (padded (w - 1) (v / 10) ++ x ∷ []) (padded w v) at n
-      (ap (λ (k : ℕ). padded k v) (sym (up w some)) ∙ padded-suc (w - 1) v ∙ ap (λ (y : ℕ). padded (w - 1) (v / 10) ++ y ∷ []) (sym e))
+      (ap (λ (k : ℕ). padded k v) (sym (up w (omega arith))) ∙ padded-suc (w - 1) v ∙ ap (λ (y : ℕ). padded (w - 1) (v / 10) ++ y ∷ []) (sym e))
       (sent-more o o₁ o₂ (padded (w - 1) (v / 10)) (x ∷ []) at m n r l s)
 
-  pub sent-number : (v : ℕ) → Sent o at (padded (w - 1) (v / 10)) m o₁ → Sent o₁ m ((48 + v % 10) ∷ []) n o₂ → Sent o at (column w v) n o₂
-  sent-number v r s =
-      sent-as o o₂ (padded (w - 1) (v / 10) ++ (48 + v % 10) ∷ []) (column w v) at n (ap (λ (k : ℕ). column k v) (sym (up w some)) ∙ column-suc (w - 1) v)
+  pub sent-number : 0 < w → (v : ℕ) → Sent o at (padded (w - 1) (v / 10)) m o₁ → Sent o₁ m ((48 + v % 10) ∷ []) n o₂ → Sent o at (column w v) n o₂
+  sent-number h v r s =
+      sent-as o o₂ (padded (w - 1) (v / 10) ++ (48 + v % 10) ∷ []) (column w v) at n (ap (λ (k : ℕ). column k v) (sym (up w h)) ∙ column-suc (w - 1) v)
       (sent-more o o₁ o₂ (padded (w - 1) (v / 10)) ((48 + v % 10) ∷ []) at m n r l s)
 
 -- THE LINE OF A PART

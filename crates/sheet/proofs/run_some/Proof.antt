@@ -10,7 +10,8 @@ use Rattle.sheet.proofs.run_some.Tie as tie
 
 abbrev Inv-loop : tie.InvT-loop
 Inv-loop pkg₀ line₀ n out₀ read written₀ k came left₀ i₀ pkg line out written left i =
-    (length pkg ≡ length pkg₀) × (length line ≡ length line₀) × (length out ≡ length out₀) × (i ≤ length came) × Ready pkg line left (drop i came) out read written
+    (length pkg ≡ length pkg₀) × (length line ≡ length line₀) × (length out ≡ length out₀) × (i ≤ length came)
+    × Ready pkg line left (drop i came) out read written
 
 abbrev μ-loop : tie.MeasureT-loop
 μ-loop pkg₀ line₀ n out₀ read written₀ k came left₀ i₀ pkg line out written left i = length came - i

@@ -9,7 +9,9 @@ use Rattle.commands.proofs.feeding.feed.Statement.{statement}
 use Rattle.commands.proofs.feeding.feed.Tie as tie
 
 abbrev Inv-loop : tie.InvT-loop
-Inv-loop pkg₀ line₀ n piece from out₀ m₀ i₀ at₀ pkg line out m i at = (length pkg ≡ length pkg₀) × (length line ≡ length line₀) × (length out ≡ length out₀) × Feeding pkg₀ line₀ n piece from out₀ m i at pkg line out
+Inv-loop pkg₀ line₀ n piece from out₀ m₀ i₀ at₀ pkg line out m i at =
+    (length pkg ≡ length pkg₀) × (length line ≡ length line₀) × (length out ≡ length out₀)
+    × Feeding pkg₀ line₀ n piece from out₀ m i at pkg line out
 
 abbrev μ-loop : tie.MeasureT-loop
 μ-loop pkg₀ line₀ n piece from out₀ m₀ i₀ at₀ pkg line out m i at = length piece - i

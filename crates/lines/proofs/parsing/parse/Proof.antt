@@ -1,4 +1,5 @@
-use Rattle.lines.proofs.Commands.{parse-long, parse-first, parse-list, parse-alone, parse-empty, parse-drop, parse-two, parse-put, parse-short, parse-four, parse-typed}
+use Rattle.lines.proofs.Commands.{parse-long, parse-first, parse-list, parse-alone, parse-empty}
+use Rattle.lines.proofs.Commands.{parse-drop, parse-two, parse-put, parse-short, parse-four, parse-typed}
 use borrow.Author.Needs.{needs}
 use Rattle.lines.proofs.parsing.parse.Statement.{statement}
 use Rattle.lines.proofs.parsing.parse.Tie as tie

@@ -24,23 +24,6 @@ abbrev put-padded-below : ℕ → In 1 put-padded-kinds.ps
 put-padded-below t =
     and 1 put-padded-kinds.ps (falls 1 put-padded-kinds.ps _<_ μ-put-padded t) put-padded.Pre
 
-returns-2 : (t : ℕ) → put-padded-lts.Need-returns-2 (
-  put-padded-below t,
-  put-padded.Post,
-  cell-reads.Asked,
-  cell-reads.Learnt,
-  emit-reads.Asked,
-  emit-reads.Learnt,
-) (put-padded-at t) put-padded.Post
-returns-2 t c =
-    let at-emit = c .before .before in
-    let at-cell = at-emit .before .before .before in
-    let at-put-padded = at-cell .before .before .before in
-    let args = at-put-padded .before .before .before .before .args in
-    let some : 0 < args .width = omega arith in
-    (sent-padded some (at-put-padded .put-padded .kept .0) (args .v) (at-cell .cell .ensures) (at-put-padded .put-padded .ensures .0)
-    (at-emit .emit .ensures), omega arith)
-
 pub +put-padded-spec : {M : Type 1} → statement M
 +put-padded-spec = close μ-put-padded λ t. put-padded-lts.spec (
   put-padded-below t,
@@ -51,5 +34,6 @@ pub +put-padded-spec : {M : Type 1} → statement M
   emit-reads.Learnt,
 )
     (put-padded-at t) put-padded.Post
-    (λ c. (sent-padded-none _ _ _ _ (c .if1 .taken), omega arith)) (λ c. search needs) (λ c κs. (omega arith, (omega arith, omega arith)))
-    (λ c κs. search needs) (λ c. search needs) (λ c κs. search needs) (λ c. search needs) (returns-2 t)
+    (λ c. search (sent-padded-none, needs)) (λ c. search needs) (λ c κs. (omega arith, (omega arith, omega arith)))
+    (λ c κs. search needs) (λ c. search needs) (λ c κs. search needs) (λ c. search needs)
+    (λ c. search (sent-padded, needs))
