@@ -27,9 +27,9 @@ pub hands-refusal : (k : ℕ) (vs : List ℕ) (b : Answer) (r : Reply) (out : Li
 hands-refusal k vs b r out f e z = hands (answer k vs out) b (length vs) r out f refl refl (e ∙ refusing-answered k (answer k vs out) (λ u. z (e ∙ u)))
 
 -- a call on a package: what it ran is an answer
-pub replied : (call : Call) (p : List ℕ) (a : Answer) (q : List ℕ) (r : Reply) (out : List ℕ) → Ran call p a q
+pub replied : {call : Call} {p : List ℕ} {a : Answer} {q : List ℕ} {r : Reply} {out : List ℕ} → Ran call p a q
     → ((a ≡ unanswered → ⊥) → HandsOver a (valuesOf call) r out) → Replied call p r out q
-replied call p a q r out x h = record { answered = a; ran = x; handed = h (is-answer call p a q x) }
+replied {call} {p} {a} {q} x h = record { answered = a; ran = x; handed = h (is-answer call p a q x) }
 
 -- a text's answer has a value
 written-answers : (o : Outcome) (out : List ℕ) → written o out ≡ unanswered → ⊥

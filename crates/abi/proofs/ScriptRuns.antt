@@ -2,17 +2,14 @@
 -- Assumes nothing.
 use Prim.Native.Nat.{ℕ, suc, _+_, _-_, _≤_, _<_}
 use mathlib.Core.Path.{_≡_, refl, ap, sym, _∙_, subst}
-use mathlib.Core.Bool.{true, false}
-use mathlib.Core.List.{List, [], _++_, append-assoc, append-nil}
+use mathlib.Core.List.{[], _++_, append-assoc, append-nil}
 use native.Mathlib.Omega.{arith}
 use native.Mathlib.Nat.{zero-add, add-zero}
 use lib.ListN.{length, take, drop, length-append, length-drop, take-append-drop, drop-of-length-le}
 use lib.Seq.{take-at, drop-at, drop-drop, length-take-le, take-append-add, drop-append-add}
 use Rattle.base.proofs.Lists.{take-rest}
-use Rattle.output.specs.Answers.{Answer}
 use Rattle.model.specs.Sets.{Bytes}
-use Rattle.contract.specs.Ran.{Ran}
-use Rattle.script.specs.Calls.{sizeOf, isCall, callIn}
+use Rattle.script.specs.Calls.{callSize, callIn}
 use Rattle.script.proofs.CallTests.{call-inside}
 use Rattle.abi.specs.Scripts.{replySize, recorded, unread, spanOf, lentIn, Scripted, ended as run-ended, full as run-full, strange as run-strange, made as run-made}
 use Rattle.abi.specs.Turns.{Turned, full, strange, made, Going}
@@ -34,7 +31,7 @@ going-begins s p out = record {
   on = λ r more w k m x. scripted-as x refl refl (sym (zero-add w)) (sym (zero-add k)) (sym (zero-add m));
 }
 
-module _ (s p out q o : Bytes) (k w m : ℕ) (g : Going s p out k w m q o) where
+module _ {s p out q o : Bytes} {k w m : ℕ} (g : Going s p out k w m q o) where
   -- the whole script was taken
   pub going-ended : length s ≤ k → Scripted s p out q o w k m
   going-ended l =
@@ -42,7 +39,7 @@ module _ (s p out q o : Bytes) (k w m : ℕ) (g : Going s p out k w m q o) where
       scripted-as (g .on q (drop w out) 0 0 0 (subst (λ (y : Bytes). Scripted y q (drop w out) q (drop w out) 0 0 0) (sym e) run-ended)) refl
       (ap (λ (y : Bytes). take w o ++ y) (sym (g .rest)) ∙ take-append-drop w o) (add-zero w) (add-zero k) (add-zero m)
 
-  module _ (q′ ys : Bytes) (k₁ w₁ : ℕ) (t : Turned (take (length s - k) (drop k s)) q (take (length o - w) (drop w o)) k₁ w₁ q′ ys) where
+  module _ {q′ ys : Bytes} {k₁ w₁ : ℕ} (t : Turned (take (length s - k) (drop k s)) q (take (length o - w) (drop w o)) k₁ w₁ q′ ys) where
     turned : Turned (drop k s) q (drop w out) k₁ w₁ q′ ys
     turned = subst (λ (y : Bytes). Turned y q (drop w out) k₁ w₁ q′ ys) (take-rest s k) (subst (λ (y : Bytes). Turned (take (length s - k) (drop k s)) q y k₁ w₁ q′ ys) (take-rest o w ∙ g .rest) t)
 
@@ -99,11 +96,11 @@ module _ (s p out q o : Bytes) (k w m : ℕ) (g : Going s p out k w m q o) where
                 size = ap length o′-is ∙ length-append (take w o) ys ∙ omega (arith, g .written, g .size);
                 rest = ap (drop (w + w₁)) o′-is ∙ ap (λ (n : ℕ). drop (n + w₁) (take w o ++ ys)) (sym lt) ∙ drop-append-add (take w o) ys w₁ ∙ dy ∙ drop-drop w₁ w out;
                 on = λ r more w′ k′ m′ x.
-                    let x₁ : Scripted (drop (sizeOf S) S) q′ (drop (w + w₁) out) r more w′ k′ m′ =
+                    let x₁ : Scripted (drop (callSize S) S) q′ (drop (w + w₁) out) r more w′ k′ m′ =
                     subst (λ (y : Bytes). Scripted y q′ (drop (w + w₁) out) r more w′ k′ m′) (sym (drop-drop k₁ k s) ∙ ap (λ (n : ℕ). drop n S) ek) x in
-                    let x₂ : Scripted (drop (sizeOf S) S) q′ (drop (spanOf S) O) r more w′ k′ m′ =
-                    subst (λ (y : Bytes). Scripted (drop (sizeOf S) S) q′ y r more w′ k′ m′) (sym (drop-drop w₁ w out) ∙ ap (λ (n : ℕ). drop n O) ew) x₁ in
-                    scripted-as (g .on r (text ++ more) (spanOf S + w′) (sizeOf S + k′) (suc m′) (run-made e (subst (λ (n : ℕ). n ≤ length O) ew f) ran (len ∙ ew) x₂)) refl
+                    let x₂ : Scripted (drop (callSize S) S) q′ (drop (spanOf S) O) r more w′ k′ m′ =
+                    subst (λ (y : Bytes). Scripted (drop (callSize S) S) q′ y r more w′ k′ m′) (sym (drop-drop w₁ w out) ∙ ap (λ (n : ℕ). drop n O) ew) x₁ in
+                    scripted-as (g .on r (text ++ more) (spanOf S + w′) (callSize S + k′) (suc m′) (run-made e (subst (λ (n : ℕ). n ≤ length O) ew f) ran (len ∙ ew) x₂)) refl
                     (sym (append-assoc (take w o) text more) ∙ ap (λ (y : Bytes). y ++ more) (sym taken)) (omega arith) (omega arith) (omega arith);
               },
             )

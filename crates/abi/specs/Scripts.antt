@@ -4,7 +4,7 @@
 -- Assumes nothing.
 use Prim.Native.Nat.{ℕ, zero, suc, _+_, _≤_, _<_}
 use mathlib.Core.Path.{_≡_}
-use mathlib.Core.Bool.{Bool, true, false, cond}
+use mathlib.Core.Bool.{true, false, cond}
 use mathlib.Core.List.{List, [], _∷_, _++_}
 use lib.Dec.{eqb, ltb}
 use lib.ListN.{length, take, drop}
@@ -15,7 +15,7 @@ use Rattle.model.specs.Calls.{Find, View, Totals, Call, Start, Looks, Changes, 
 use Rattle.contract.specs.Holds.{Holds}
 use Rattle.contract.specs.Ran.{Ran}
 use Rattle.script.specs.Numbers.{le8}
-use Rattle.script.specs.Calls.{roomOf, sizeOf, between, isCall, callIn}
+use Rattle.script.specs.Calls.{roomOf, callSize, between, isCall, callIn}
 use Rattle.abi.specs.declared.replies.Reply.{Reply}
 use Rattle.abi.specs.Replies.{replyOf}
 
@@ -68,7 +68,7 @@ unfoldable pub entriesTo : ℕ → Bytes → Bytes → List Entry
 entriesTo zero s out = []
 entriesTo (suc most) s out =
     cond (ltb (length out) (spanOf s)) []
-    (cond (isCall s) (Made (callIn s (lentIn s out)) (lentIn s out) (sizeOf s) ∷ entriesTo most (drop (sizeOf s) s) (drop (spanOf s) out))
+    (cond (isCall s) (Made (callIn s (lentIn s out)) (lentIn s out) (callSize s) ∷ entriesTo most (drop (callSize s) s) (drop (spanOf s) out))
     (cond (eqb (length s) 0) [] (Unread ∷ [])))
 
 abbrev pub entries : Bytes → Bytes → List Entry
@@ -86,15 +86,15 @@ sizeIn (Made call lent size ∷ es) = size + sizeIn es
 sizeIn (Unread ∷ es) = sizeIn es
 
 -- what is written for the entries, with an answer for each call
-unfoldable pub textOf : List Entry → List Answer → Bytes
-textOf [] given = []
-textOf (Unread ∷ es) given = unread ++ textOf es given
-textOf (Made call lent size ∷ es) [] = []
-textOf (Made call lent size ∷ es) (a ∷ given) = recorded call lent a ++ textOf es given
+unfoldable pub writtenFor : List Entry → List Answer → Bytes
+writtenFor [] given = []
+writtenFor (Unread ∷ es) given = unread ++ writtenFor es given
+writtenFor (Made call lent size ∷ es) [] = []
+writtenFor (Made call lent size ∷ es) (a ∷ given) = recorded call lent a ++ writtenFor es given
 
 -- THE ANSWER of a run, by the ledger's `answers` of the decoded list: how many bytes are written, how many of the script its calls have, how many calls were made
 abbrev pub runText : ℕ → State → Bytes → Bytes → Bytes
-runText room S s out = textOf (entries s out) (answers room S (callsIn (entries s out)))
+runText room S s out = writtenFor (entries s out) (answers room S (callsIn (entries s out)))
 
 abbrev pub runAnswer : ℕ → State → Bytes → Bytes → Answer
 runAnswer room S s out =
@@ -106,8 +106,8 @@ pub data Scripted : Bytes → Bytes → Bytes → Bytes → Bytes → ℕ → �
   full : {s p out : Bytes} → length out < spanOf s → Scripted s p out p out 0 0 0
   strange : {s p out : Bytes} → 0 < length s → isCall s ≡ false → replySize ≤ length out → Scripted s p out p (unread ++ drop replySize out) replySize 0 0
   made : {s p out q r out′ : Bytes} {a : Answer} {w k m : ℕ} → isCall s ≡ true → spanOf s ≤ length out → Ran (callIn s (lentIn s out)) p a q
-      → length (recorded (callIn s (lentIn s out)) (lentIn s out) a) ≡ spanOf s → Scripted (drop (sizeOf s) s) q (drop (spanOf s) out) r out′ w k m
-      → Scripted s p out r (recorded (callIn s (lentIn s out)) (lentIn s out) a ++ out′) (spanOf s + w) (sizeOf s + k) (suc m)
+      → length (recorded (callIn s (lentIn s out)) (lentIn s out) a) ≡ spanOf s → Scripted (drop (callSize s) s) q (drop (spanOf s) out) r out′ w k m
+      → Scripted s p out r (recorded (callIn s (lentIn s out)) (lentIn s out) a ++ out′) (spanOf s + w) (callSize s + k) (suc m)
 
 -- the reply r, the output and the package that a run left are those of the ledger's answers from S on
 pub record FromLedger (S : State) (s p out : Bytes) (r : Reply) (out′ q : Bytes) : Type 0 where

@@ -9,7 +9,7 @@ use Rattle.output.specs.Answers.{Answer}
 use Rattle.model.specs.Sets.{Bytes}
 use Rattle.model.specs.Calls.{Call}
 use Rattle.contract.specs.Ran.{Ran}
-use Rattle.script.specs.Calls.{roomOf, sizeOf, isCall, callIn}
+use Rattle.script.specs.Calls.{callSize, isCall, callIn}
 use Rattle.abi.specs.declared.replies.Reply.{Reply}
 use Rattle.abi.specs.Replies.{replyOf}
 use Rattle.abi.specs.Scripts.{replySize, told, left, recorded, unread, spanOf, lentIn, Scripted}
@@ -29,7 +29,7 @@ pub record Unlent (call : Bytes → Call) (p : Bytes) (r : Reply) (q : Bytes) : 
 pub data Turned (s p out : Bytes) (k w : ℕ) (q out′ : Bytes) : Type 0 where
   full : length out < spanOf s → k ≡ 0 → w ≡ 0 → q ≡ p → out′ ≡ out → Turned s p out k w q out′
   strange : isCall s ≡ false → replySize ≤ length out → k ≡ 0 → w ≡ replySize → q ≡ p → out′ ≡ unread ++ drop replySize out → Turned s p out k w q out′
-  made : (a : Answer) → isCall s ≡ true → k ≡ sizeOf s → w ≡ spanOf s → w ≤ length out → Ran (callIn s (lentIn s out)) p a q
+  made : (a : Answer) → isCall s ≡ true → k ≡ callSize s → w ≡ spanOf s → w ≤ length out → Ran (callIn s (lentIn s out)) p a q
       → length (recorded (callIn s (lentIn s out)) (lentIn s out) a) ≡ w → out′ ≡ recorded (callIn s (lentIn s out)) (lentIn s out) a ++ drop w out → Turned s p out k w q out′
 
 -- a run has come to place k of the script and place w of the output, by m calls, and has left q and out′ so far: what a run from there leaves is what the whole run leaves

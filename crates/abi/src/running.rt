@@ -3,6 +3,7 @@ use crate::making::make;
 use crate::replies::Reply;
 use crate::replies::one;
 use crate::replies::three;
+use script::heads::HEAD_SIZE;
 use script::heads::Head;
 use script::heads::Next;
 use script::heads::next_call;
@@ -17,8 +18,6 @@ ghost use Rattle.abi.specs.Turns.{Turned};
 
 // How many bytes a reply has.
 const REPLY_SIZE: usize = 40;
-
-const HEAD_SIZE: usize = 32;
 
 // How many bytes of the script a turn took, none where the run ends, and how many of the output.
 struct Turn {

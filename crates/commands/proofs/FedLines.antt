@@ -18,7 +18,7 @@ use Rattle.lines.specs.Gathering.{Open, together, Gathers}
 use Rattle.lines.proofs.Together.{take-had}
 use Rattle.lines.proofs.Pieces.{gathered-line, gathered-part, shown-end, shown-end-none}
 use Rattle.commands.specs.Running.{LineRun}
-use Rattle.commands.specs.Feeding.{mostShown, rest, Told, Steps, Feeding, Round, Feeds, Ends}
+use Rattle.commands.specs.Feeding.{mostShown, rest, FedTo, Steps, Feeding, Round, Feeds, Ends}
 use Rattle.commands.proofs.ShownSizes.{shown-length}
 
 -- no byte of a line is there yet
@@ -48,7 +48,7 @@ module _ (p line : Bytes) (n : ℕ) (piece : Bytes) (from : ℕ) (out : Bytes) (
     onward = λ _. (omega (arith, g .at-is), omega arith);
     small = r .few;
     few = λ S h. line-few p (take size line') out k p' out' r S h;
-    told = λ S h room o inside. record {
+    fed-to = λ S h room o inside. record {
       text = shownBy S (lineRead (take size line')) .0;
       after = shownBy S (lineRead (take size line')) .1;
       sent = r .shows S h;
@@ -64,7 +64,7 @@ module _ (p line : Bytes) (n : ℕ) (piece : Bytes) (from : ℕ) (out : Bytes) (
     onward = λ f. (omega arith, omega (arith, g .at-is, index-le lineFeed (drop from piece), length-drop from piece));
     small = omega arith;
     few = λ S h. omega arith;
-    told = λ S h room o inside. record {
+    fed-to = λ S h room o inside. record {
       text = [];
       after = S;
       sent = sent-none out 0;
@@ -84,10 +84,10 @@ module _ (p line : Bytes) (n : ℕ) (piece : Bytes) (from : ℕ) (out : Bytes) w
     inside = λ f. f;
     fits = omega arith;
     room = λ f. omega arith;
-    told = λ S h room o inside. record { text = []; after = S; sent = sent-none out 0; holds = h; begun = o; is = λ later. refl };
+    fed-to = λ S h room o inside. record { text = []; after = S; sent = sent-none out 0; holds = h; begun = o; is = λ later. refl };
   }
 
-  round : (n' from' k : ℕ) (p' line' out' : Bytes) (S : State) → Told S line n piece from out n' from' k p' line' out' → k ≤ length out → Round S line n piece from out n' from' k p' line' out'
+  round : (n' from' k : ℕ) (p' line' out' : Bytes) (S : State) → FedTo S line n piece from out n' from' k p' line' out' → k ≤ length out → Round S line n piece from out n' from' k p' line' out'
   round n' from' k p' line' out' S t f = record {
     after = t .after;
     holds = t .holds;
@@ -101,7 +101,7 @@ module _ (p line : Bytes) (n : ℕ) (piece : Bytes) (from : ℕ) (out : Bytes) w
     pub feed-end : length piece ≤ i → Feeds p line n piece from out m i at q line₁ out₁
     feed-end l = record {
       onward = λ f. (omega arith, w .inside (omega arith));
-      is = λ S h room o inside most. round m i at q line₁ out₁ S (w .told S h room o inside) (omega (arith, w .room most));
+      is = λ S h room o inside most. round m i at q line₁ out₁ S (w .fed-to S h room o inside) (omega (arith, w .room most));
     }
 
     -- a line more, into the rest of the output
@@ -110,16 +110,16 @@ module _ (p line : Bytes) (n : ℕ) (piece : Bytes) (from : ℕ) (out : Bytes) w
       abbrev out₂ : Bytes
       out₂ = take at out₁ ++ (ys ++ drop (length out₁ - at) (drop at out₁))
 
-      pub out-length : length out₂ ≡ length out₁
+      pub out-length : length out₂ ≡ length out
       out-length =
           length-append (take at out₁) (ys ++ drop (length out₁ - at) (drop at out₁))
           ∙ ap (λ (x : ℕ). length (take at out₁) + x) (length-append ys (drop (length out₁ - at) (drop at out₁)))
-          ∙ omega (arith, ly, w .fits, length-take at out₁, length-take (length out₁ - at) (drop at out₁), length-drop at out₁, length-drop (length out₁ - at) (drop at out₁))
+          ∙ omega (arith, ly, lo, w .fits, length-take at out₁, length-take (length out₁ - at) (drop at out₁), length-drop at out₁, length-drop (length out₁ - at) (drop at out₁))
 
-      told-more : (S : State) → Holds p S → 1024 < length line → Open (take n line) → from ≤ length piece → Told S line n piece from out m' i' (at + k) q' line₂ out₂
-      told-more S h room o inside =
-          let t = w .told S h room o inside in
-          let u = s .told (t .after) (t .holds) (omega arith) (t .begun) (omega arith) in
+      fed-more : (S : State) → Holds p S → 1024 < length line → Open (take n line) → from ≤ length piece → FedTo S line n piece from out m' i' (at + k) q' line₂ out₂
+      fed-more S h room o inside =
+          let t = w .fed-to S h room o inside in
+          let u = s .fed-to (t .after) (t .holds) (omega arith) (t .begun) (omega arith) in
           record {
             text = t .text ++ u .text;
             after = u .after;
@@ -132,7 +132,7 @@ module _ (p line : Bytes) (n : ℕ) (piece : Bytes) (from : ℕ) (out : Bytes) w
           }
 
       step-few : (S : State) → Holds p S → 1024 < length line → Open (take n line) → from ≤ length piece → k ≤ mostShown
-      step-few S h room o inside = let t = w .told S h room o inside in s .few (t .after) (t .holds)
+      step-few S h room o inside = let t = w .fed-to S h room o inside in s .few (t .after) (t .holds)
 
       pub feeding-more : at + k + mostShown ≤ length out₂ → Feeding p line n piece from out m' i' (at + k) q' line₂ out₂
       feeding-more f = record {
@@ -140,14 +140,14 @@ module _ (p line : Bytes) (n : ℕ) (piece : Bytes) (from : ℕ) (out : Bytes) w
         inside = λ _. s .onward l .1;
         fits = omega (arith, out-length);
         room = λ _. omega (arith, out-length);
-        told = told-more;
+        fed-to = fed-more;
       }
 
       pub feed-stop : Feeds p line n piece from out m' i' (at + k) q' line₂ out₂
       feed-stop = record {
         onward = λ f. (omega (arith, w .low, s .onward l .0), s .onward l .1);
         is = λ S h room o inside most.
-            round m' i' (at + k) q' line₂ out₂ S (told-more S h room o inside) (omega (arith, w .room most, step-few S h room o inside));
+            round m' i' (at + k) q' line₂ out₂ S (fed-more S h room o inside) (omega (arith, w .room most, step-few S h room o inside));
       }
 
 -- THE END OF THE INPUT

@@ -10,13 +10,13 @@ use Rattle.output.proofs.Sending.{sent-none, sent-more, sent-as}
 use Rattle.model.specs.Sets.{Bytes}
 use Rattle.model.specs.Package.{Item, parts}
 use Rattle.model.specs.Sheet.{partLine, listing}
-use Rattle.store.specs.Layout.{slotCount, countOf}
+use Rattle.store.specs.Layout.{countOf}
 use Rattle.store.specs.Rows.{rowAt, fieldOf}
-use Rattle.store.specs.Packages.{Sound}
+use Rattle.store.specs.Packages.{Sound, Shape}
 use Rattle.contract.specs.Searches.{Counted}
 use Rattle.parts.specs.Runs.{run, Ended}
 use Rattle.parts.proofs.PartWalks.{parts-none, next-parts}
-use Rattle.commands.specs.Listings.{GroupSent, Listing, Listed}
+use Rattle.commands.specs.Listings.{GroupSent, GroupsSent, ListingSent}
 
 -- the line of one part more, or of none
 joined-next : (f : List Item → Bytes) (z : Bool) (g : List Item) (gs hs : List (List Item)) → gs ≡ cond z (g ∷ hs) hs → flatMap f gs ≡ cond z (f g) [] ++ flatMap f hs
@@ -25,15 +25,15 @@ joined-next f true g gs hs e = ap (flatMap f) e
 joined-next f false g gs hs e = ap (flatMap f) e
 
 module _ (b : Bytes) (n : ℕ) (out : Bytes) where
-  pub listing-begin : Listing b n 0 out 0 out
+  pub groups-begin : GroupsSent b n 0 out 0 out
   unfolding listing
-  listing-begin = record { within = omega arith; few = omega arith; is = λ S h en. record { text = []; sent = sent-none out 0; is = refl } }
+  groups-begin = record { within = omega arith; few = omega arith; is = λ S h en. record { text = []; sent = sent-none out 0; is = refl } }
 
-  module _ (i at : ℕ) (out' : Bytes) (w : Listing b n i out at out') where
+  module _ (i at : ℕ) (out' : Bytes) (w : GroupsSent b n i out at out') where
     -- one group more: q is the prefix in row i, e the end of its group
-    pub listing-more : length out' ≡ length out → i < n → (q : Bytes) → (Sound b → i < countOf b → q ≡ fieldOf (rowAt b i) 0) → (e : ℕ) → Ended b (i + 1) n q e
-        → (next : ℕ) (out'' : Bytes) → GroupSent b i e out' at next out'' → Listing b n e out next out''
-    listing-more same l q eq e x next out'' g = record {
+    pub groups-more : length out' ≡ length out → i < n → (q : Bytes) → (Sound b → i < countOf b → q ≡ fieldOf (rowAt b i) 0) → (e : ℕ) → Ended b (i + 1) n q e
+        → (next : ℕ) (out'' : Bytes) → GroupSent b i e out' at next out'' → GroupsSent b n e out next out''
+    groups-more same l q eq e x next out'' g = record {
       within = x .high n (omega arith) (omega arith);
       few = omega (arith, x .low, w .few, g .few);
       is = λ S h en.
@@ -51,10 +51,10 @@ module _ (b : Bytes) (n : ℕ) (out : Bytes) where
           };
     }
 
-    pub listed-end : n ≤ i → n ≤ slotCount → Counted b n → Listed b out at out'
+    pub groups-end : n ≤ i → Shape b → Counted b n → ListingSent b out at out'
     unfolding flatMap
-    listed-end l m c = record {
-      few = omega (arith, w .few, w .within);
+    groups-end l m c = record {
+      few = omega (arith, w .few, w .within, m .few, c .low);
       is = λ S h.
           let v = w .is S h (c .is S h) in
           let z : parts (drop i (S .items)) ≡ [] = ap parts (drop-of-length-le (S .items) {i = i} (omega (arith, c .is S h))) ∙ parts-none in

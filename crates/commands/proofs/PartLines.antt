@@ -24,8 +24,8 @@ use Rattle.parts.specs.Runs.{run, Judged}
 use Rattle.parts.specs.Copies.{Measured}
 use Rattle.parts.proofs.OutputCopies.{run-cons}
 use Rattle.types.specs.TypeRows.{Typed}
-use Rattle.lines.specs.Printing.{typeGiven, row}
-use Rattle.lines.proofs.Sends.{part-line, type-given, type-length, row-length}
+use Rattle.lines.specs.Printing.{typeGiven, partText}
+use Rattle.lines.proofs.Sends.{part-line, type-given, type-length, part-text-length}
 use Rattle.commands.specs.Listings.{ShortField, TypeText, PartSent, GroupSent}
 
 -- A FIELD of at most so many bytes
@@ -53,8 +53,8 @@ module _ (b name : Bytes) (r : ℕ) (t : Typed b name r) (m : ℕ) (em : m ≡ c
   type-missing l = record { few = omega arith; is = λ S h. sym (t .missing S h (omega arith)) }
 
 -- THE LINE
-same-row : (p q k l : ℕ) (s t : Bytes) (o u : Option Bytes) → p ≡ q → k ≡ l → s ≡ t → o ≡ u → row p k s o ≡ row q l t u
-same-row p q k l s t o u e f g h = rw (e, f, g, h)
+same-text : (p q k l : ℕ) (s t : Bytes) (o u : Option Bytes) → p ≡ q → k ≡ l → s ≡ t → o ≡ u → partText p k s o ≡ partText q l t u
+same-text p q k l s t o u e f g h = rw (e, f, g, h)
 
 module _ (b : Bytes) (f t : ℕ) (l : f < t) where
   -- a run is spelled as its first row says
@@ -63,20 +63,20 @@ module _ (b : Bytes) (f t : ℕ) (l : f < t) where
   run-spelled S h m = ap spelling (run-cons (S .items) f t l m) ∙ sym (item-prefix b S h f (omega arith))
 
   module _ (name : Bytes) (en : ShortField b f 0 255 name) (kind : Bytes) (ek : TypeText b name kind) (k : ℕ) (em : Measured b f t k) where
-    part-row : (S : State) → Holds b S → t ≤ length (S .items) → partLine S (run f t (S .items)) ≡ row (t - f) k name (typeGiven kind)
-    part-row S h m =
+    part-text : (S : State) → Holds b S → t ≤ length (S .items) → partLine S (run f t (S .items)) ≡ partText (t - f) k name (typeGiven kind)
+    part-text S h m =
         let g = run f t (S .items) in
         let p = item-prefix b S h f (omega arith) in
         let i : length (fieldOf (rowAt b f) 0) ≤ 255 = rw p (prefix-few S (h .good) f noItem (omega arith)) in
         let s : spelling g ≡ name = run-spelled S h m ∙ sym (en .is (h .lies .sound) (omega (arith, items-le b S h)) i) in
         part-line S g
-        ∙ same-row (length g) (t - f) (length (content g)) k (spelling g) name (mediaTypeOf (spelling g) S) (typeGiven kind)
+        ∙ same-text (length g) (t - f) (length (content g)) k (spelling g) name (mediaTypeOf (spelling g) S) (typeGiven kind)
         (length-take-le (t - f) (drop f (S .items)) (rw length-drop (omega arith))) (sym (em .is S h m)) s (ap (λ (x : Bytes). mediaTypeOf x S) s ∙ sym (ek .is S h))
 
-    pub part-sent : (out : Bytes) (n : ℕ) (out' : Bytes) → Sent out 0 (row (t - f) k name (typeGiven kind)) n out' → PartSent b f t out n out'
+    pub part-sent : (out : Bytes) (n : ℕ) (out' : Bytes) → Sent out 0 (partText (t - f) k name (typeGiven kind)) n out' → PartSent b f t out n out'
     part-sent out n out' s = record {
-      few = omega (arith, s .next-is, row-length (t - f) k name (typeGiven kind) (en .few) (type-length kind (ek .few)));
-      is = λ S h m. sent-as out out' (row (t - f) k name (typeGiven kind)) (partLine S (run f t (S .items))) 0 n (part-row S h m) s;
+      few = omega (arith, s .next-is, part-text-length (t - f) k name (typeGiven kind) (en .few) (type-length kind (ek .few)));
+      is = λ S h m. sent-as out out' (partText (t - f) k name (typeGiven kind)) (partLine S (run f t (S .items))) 0 n (part-text S h m) s;
     }
 
 -- THE LINE OF A GROUP; z tells whether it is a part

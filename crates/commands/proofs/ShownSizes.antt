@@ -15,7 +15,7 @@ use Rattle.model.specs.Sheet.{Line, Does, Lists, Unreadable, typeOrDash, partLi
 use Rattle.model.proofs.Lists.{each-map}
 use Rattle.model.proofs.Parts.{Unreserved, parts-few, parts-named}
 use Rattle.model.proofs.FieldSizes.{type-size}
-use Rattle.lines.proofs.Sends.{row-length, answer-length}
+use Rattle.lines.proofs.Sends.{part-text-length, answer-length}
 use Rattle.commands.specs.Feeding.{mostShown}
 
 joined-length : (f : List Item → Bytes) (gs : List (List Item)) → Each (λ (g : List Item). length (f g) ≤ 398) gs → length (flatMap f gs) ≤ 398 * length gs
@@ -33,7 +33,7 @@ module _ (S : State) (g : Good S) where
 
   part-few : (q : List Item) → Unreserved (spelling q) → length (partLine S q) ≤ 398
   part-few q u =
-      row-length (length q) (length (content q)) (spelling q) (mediaTypeOf (spelling q) S) (name-few (spelling q) (u .0)) (type-few (spelling q))
+      part-text-length (length q) (length (content q)) (spelling q) (mediaTypeOf (spelling q) S) (name-few (spelling q) (u .0)) (type-few (spelling q))
 
   pub listing-length : length (listing S) ≤ mostShown
   unfolding listing

@@ -20,7 +20,7 @@ abbrev pub rest : State → Bytes → ℕ → Bytes → ℕ → Bytes → Bytes
 rest S line n piece from later = shown S (linesOf (take n line ++ (drop from piece ++ later)))
 
 -- of that, the text was sent to the output; the rest is printed for the package `after`, the n' bytes of a line and the piece from the place from' on
-pub record Told (S : State) (line : Bytes) (n : ℕ) (piece : Bytes) (from : ℕ) (out : Bytes) (n' from' k : ℕ) (p' line' out' : Bytes) : Type 0 where
+pub record FedTo (S : State) (line : Bytes) (n : ℕ) (piece : Bytes) (from : ℕ) (out : Bytes) (n' from' k : ℕ) (p' line' out' : Bytes) : Type 0 where
   pub text : Bytes
   pub after : State
   pub sent : Sent out 0 text k out'
@@ -33,7 +33,7 @@ pub record Steps (p line : Bytes) (n : ℕ) (piece : Bytes) (from : ℕ) (out : 
   pub onward : from < length piece → (from < from') × (from' ≤ length piece)
   pub small : k ≤ 254720
   pub few : (S : State) → Holds p S → k ≤ mostShown
-  pub told : (S : State) → Holds p S → 1024 < length line → Open (take n line) → from ≤ length piece → Told S line n piece from out n' from' k p' line' out'
+  pub fed-to : (S : State) → Holds p S → 1024 < length line → Open (take n line) → from ≤ length piece → FedTo S line n piece from out n' from' k p' line' out'
 
 -- and of its loop: some lines, with room for one more
 pub record Feeding (p line : Bytes) (n : ℕ) (piece : Bytes) (from : ℕ) (out : Bytes) (n' from' k : ℕ) (p' line' out' : Bytes) : Type 0 where
@@ -41,7 +41,7 @@ pub record Feeding (p line : Bytes) (n : ℕ) (piece : Bytes) (from : ℕ) (out 
   pub inside : from ≤ length piece → from' ≤ length piece
   pub fits : k ≤ length out
   pub room : mostShown ≤ length out → k + mostShown ≤ length out
-  pub told : (S : State) → Holds p S → 1024 < length line → Open (take n line) → from ≤ length piece → Told S line n piece from out n' from' k p' line' out'
+  pub fed-to : (S : State) → Holds p S → 1024 < length line → Open (take n line) → from ≤ length piece → FedTo S line n piece from out n' from' k p' line' out'
 
 -- THE PROMISE of a feed. What is printed begins with the first k bytes of the output
 pub record Round (S : State) (line : Bytes) (n : ℕ) (piece : Bytes) (from : ℕ) (out : Bytes) (n' from' k : ℕ) (p' line' out' : Bytes) : Type 0 where

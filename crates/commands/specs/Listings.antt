@@ -45,12 +45,12 @@ pub record ListedTo (S : State) (i : ℕ) (out : Bytes) (at : ℕ) (out' : Bytes
   pub is : listing S ≡ text ++ flatMap (partLine S) (parts (drop i (S .items)))
 
 -- a walk over n items has come to row i
-pub record Listing (b : Bytes) (n i : ℕ) (out : Bytes) (at : ℕ) (out' : Bytes) : Type 0 where
+pub record GroupsSent (b : Bytes) (n i : ℕ) (out : Bytes) (at : ℕ) (out' : Bytes) : Type 0 where
   pub within : i ≤ n
   pub few : at ≤ 398 * i
   pub is : (S : State) → Holds b S → n ≡ length (S .items) → ListedTo S i out at out'
 
 -- all lines were sent
-pub record Listed (b out : Bytes) (n : ℕ) (out' : Bytes) : Type 0 where
+pub record ListingSent (b out : Bytes) (n : ℕ) (out' : Bytes) : Type 0 where
   pub few : n ≤ 254720
   pub is : (S : State) → Holds b S → Sent out 0 (listing S) n out'

@@ -11,7 +11,7 @@ use Rattle.model.specs.Sheet.{lineRead, shownBy}
 use Rattle.contract.specs.Holds.{Holds}
 
 -- a change was made of the package in p, or refused; n is its number
-pub record Numbered (c : Change) (p : Bytes) (n : ℕ) (p' : Bytes) : Type 0 where
+pub record ChangeRun (c : Change) (p : Bytes) (n : ℕ) (p' : Bytes) : Type 0 where
   pub is : (S : State) → Holds p S → (n ≡ change S c .0 .number) × Holds p' (change S c .1)
   pub size : length p' ≡ length p
 

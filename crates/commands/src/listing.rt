@@ -1,7 +1,7 @@
 // The listing of the parts: one walk over the items, group by group.
 use base::numbers::smaller;
 use contract::search::item_count;
-use lines::printing::put_row;
+use lines::printing::put_part_line;
 use parts::reading::content_length;
 use parts::runs::makes_part;
 use parts::runs::own_end;
@@ -11,7 +11,7 @@ use types::media::type_row;
 ghost use Prim.Native.Nat.{_≤_, _<_};
 ghost use Rattle.store.specs.Layout.{slotCount};
 ghost use Rattle.store.specs.Packages.{Shape};
-ghost use Rattle.commands.specs.Listings.{ShortField, TypeText, PartSent, GroupSent, Listed};
+ghost use Rattle.commands.specs.Listings.{ShortField, TypeText, PartSent, GroupSent, ListingSent};
 
 // Field j of row i; no bytes where it has more than `most`.
 fn short_field(pkg: &[u8], i: usize, j: usize, most: usize) -> &[u8]
@@ -45,7 +45,7 @@ fn put_part(pkg: &[u8], from: usize, to: usize, out: &mut [u8]) -> usize
     let name = short_field(pkg, from, 0, 255);
     let kind = type_of(pkg, name);
     let bytes = content_length(pkg, from, to);
-    put_row(to - from, bytes, name, kind, out)
+    put_part_line(to - from, bytes, name, kind, out)
 }
 
 // The line of the group in these rows at place `at` of the output, if the group is a part. The place behind it.
@@ -64,7 +64,7 @@ fn put_group(pkg: &[u8], from: usize, to: usize, out: &mut [u8], at: usize) -> u
 // The lines of all parts. How many bytes they have.
 pub(crate) fn put_listing(pkg: &[u8], out: &mut [u8]) -> usize
     requires { ⌜ Shape (now pkg) ⌝ }
-    ensures { λ r. ⌜ Listed (now (pkg .entry)) (now (out .entry)) r (now (out .exit)) ⌝ }
+    ensures { λ r. ⌜ ListingSent (now (pkg .entry)) (now (out .entry)) r (now (out .exit)) ⌝ }
 {
     let n = item_count(pkg);
     let mut row = 0;

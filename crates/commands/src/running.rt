@@ -16,8 +16,8 @@ ghost use Rattle.output.specs.Answers.{unanswered};
 ghost use Rattle.model.specs.Calls.{Change};
 ghost use Rattle.contract.specs.Answers.{ofDid};
 ghost use Rattle.lines.specs.Reading.{fieldTo, fieldAfter};
-ghost use Rattle.commands.specs.Listings.{Listed};
-ghost use Rattle.commands.specs.Running.{Numbered, LineRun};
+ghost use Rattle.commands.specs.Listings.{ListingSent};
+ghost use Rattle.commands.specs.Running.{ChangeRun, LineRun};
 
 fn number_of(d: Did) -> u8
     ensures { λ r. ⌜ ((ofDid d ≡ unanswered → ⊥) → r ≡ (ofDid d) .number) ⌝ }
@@ -31,7 +31,7 @@ fn number_of(d: Did) -> u8
 // The commands of two fields, the first one from place 2 to e, the other one behind the space at e.
 fn run_put(pkg: &mut [u8], line: &[u8], e: usize) -> u8
     requires { ⌜ (2 < e) × (e < length (now line)) ⌝ }
-    ensures { λ r. ⌜ Numbered (Change.PutItem (fieldTo e (now (line .entry))) (fieldAfter e (now (line .entry)))) (now (pkg .entry)) r (now (pkg .exit)) ⌝ }
+    ensures { λ r. ⌜ ChangeRun (Change.PutItem (fieldTo e (now (line .entry))) (fieldAfter e (now (line .entry)))) (now (pkg .entry)) r (now (pkg .exit)) ⌝ }
 {
     let s = e + 1;
     number_of(put_item(pkg, &line[2..e], &line[s..]))
@@ -39,7 +39,7 @@ fn run_put(pkg: &mut [u8], line: &[u8], e: usize) -> u8
 
 fn run_default(pkg: &mut [u8], line: &[u8], e: usize) -> u8
     requires { ⌜ (2 < e) × (e < length (now line)) ⌝ }
-    ensures { λ r. ⌜ Numbered (Change.PutDefault (fieldTo e (now (line .entry))) (fieldAfter e (now (line .entry)))) (now (pkg .entry)) r (now (pkg .exit)) ⌝ }
+    ensures { λ r. ⌜ ChangeRun (Change.PutDefault (fieldTo e (now (line .entry))) (fieldAfter e (now (line .entry)))) (now (pkg .entry)) r (now (pkg .exit)) ⌝ }
 {
     let s = e + 1;
     number_of(put_default(pkg, &line[2..e], &line[s..]))
@@ -47,7 +47,7 @@ fn run_default(pkg: &mut [u8], line: &[u8], e: usize) -> u8
 
 fn run_override(pkg: &mut [u8], line: &[u8], e: usize) -> u8
     requires { ⌜ (2 < e) × (e < length (now line)) ⌝ }
-    ensures { λ r. ⌜ Numbered (Change.PutOverride (fieldTo e (now (line .entry))) (fieldAfter e (now (line .entry)))) (now (pkg .entry)) r (now (pkg .exit)) ⌝ }
+    ensures { λ r. ⌜ ChangeRun (Change.PutOverride (fieldTo e (now (line .entry))) (fieldAfter e (now (line .entry)))) (now (pkg .entry)) r (now (pkg .exit)) ⌝ }
 {
     let s = e + 1;
     number_of(put_override(pkg, &line[2..e], &line[s..]))
@@ -56,13 +56,13 @@ fn run_override(pkg: &mut [u8], line: &[u8], e: usize) -> u8
 // The name stands from place 2 on.
 fn run_drop(pkg: &mut [u8], line: &[u8]) -> u8
     requires { ⌜ 2 < length (now line) ⌝ }
-    ensures { λ r. ⌜ Numbered (Change.DropItem (drop 2 (now (line .entry)))) (now (pkg .entry)) r (now (pkg .exit)) ⌝ }
+    ensures { λ r. ⌜ ChangeRun (Change.DropItem (drop 2 (now (line .entry)))) (now (pkg .entry)) r (now (pkg .exit)) ⌝ }
 {
     number_of(drop_item(pkg, &line[2..]))
 }
 
 fn run_list(pkg: &[u8], out: &mut [u8]) -> usize
-    ensures { λ r. ⌜ Listed (now (pkg .entry)) (now (out .entry)) r (now (out .exit)) ⌝ }
+    ensures { λ r. ⌜ ListingSent (now (pkg .entry)) (now (out .entry)) r (now (out .exit)) ⌝ }
 {
     let k = opened(pkg);
     if k != 0 {

@@ -20,7 +20,7 @@ use Rattle.chars.proofs.Splits.{split-last, split-more}
 use Rattle.model.specs.Sets.{Bytes}
 use Rattle.model.specs.Calls.{PutItem, PutDefault, PutOverride}
 use Rattle.model.specs.Sheet.{Does, Unreadable, space, lineRead, byFields, readable, filledIn}
-use Rattle.lines.specs.Reading.{Parsed, typedAs, fieldTo, fieldAfter}
+use Rattle.lines.specs.Reading.{Parsed, twoFields, fieldTo, fieldAfter}
 use Rattle.lines.specs.declared.parsing.Command.{Command}
 use Rattle.lines.specs.declared.parsing.Command.the-variants as command
 
@@ -229,7 +229,7 @@ module _ (l : Bytes) (few : length l ≤ 1024) where
                     unreadable l (from-third _ (field-more l (e + 1) f fourth (omega arith) h)
                     ∙ four-is l x other (fieldTo e l) _ (split space (drop (f + 1) l)) (split-length space (drop (f + 1) l)))
 
-                pub parse-typed : e + 1 < length l → length l ≤ f → (r : Command) → r ≡ typedAs x e → Parsed l r
+                pub parse-typed : e + 1 < length l → length l ≤ f → (r : Command) → r ≡ twoFields x e → Parsed l r
                 unfolding same
                 parse-typed g h r q = subst (Parsed l) (sym q) (go (eqb x (code "D")) (eqb x (code "O")) refl refl)
                   where

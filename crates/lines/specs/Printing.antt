@@ -25,9 +25,9 @@ cellOf v = cond (eqb v 0) space (code "0" + v % 10)
 abbrev pub typeGiven : Bytes → Option Bytes
 typeGiven t = cond (isEmpty t) none (some t)
 
-abbrev pub counts : ℕ → ℕ → Bytes
-counts pieces bytes = column 4 pieces ++ (ascii " " ++ (column 8 bytes ++ ascii " "))
+abbrev pub columns : ℕ → ℕ → Bytes
+columns pieces bytes = column 4 pieces ++ (ascii " " ++ (column 8 bytes ++ ascii " "))
 
 -- `partLine` of a part with so many pieces and bytes, this name and this type
-abbrev pub row : ℕ → ℕ → Bytes → Option Bytes → Bytes
-row pieces bytes name type = line (column 4 pieces ++ (ascii " " ++ (column 8 bytes ++ (ascii " " ++ (name ++ (ascii " " ++ typeOrDash type))))))
+abbrev pub partText : ℕ → ℕ → Bytes → Option Bytes → Bytes
+partText pieces bytes name type = line (column 4 pieces ++ (ascii " " ++ (column 8 bytes ++ (ascii " " ++ (name ++ (ascii " " ++ typeOrDash type))))))

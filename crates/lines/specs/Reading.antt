@@ -42,5 +42,5 @@ pub record Parsed (l : Bytes) (r : Command) : Type 0 where
   pub inside : Inside r (length l)
 
 -- the commands of two fields that both are filled in, the first one up to e
-abbrev pub typedAs : ℕ → ℕ → Command
-typedAs letter e = cond (eqb letter (code "D")) (command.Default e) (cond (eqb letter (code "O")) (command.Override e) command.Unreadable)
+abbrev pub twoFields : ℕ → ℕ → Command
+twoFields letter e = cond (eqb letter (code "D")) (command.Default e) (cond (eqb letter (code "O")) (command.Override e) command.Unreadable)

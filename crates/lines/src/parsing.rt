@@ -2,7 +2,7 @@
 use base::bytes::byte_at;
 use chars::search::find;
 ghost use mathlib.Core.Path.{_≡_};
-ghost use Rattle.lines.specs.Reading.{Parsed, typedAs};
+ghost use Rattle.lines.specs.Reading.{Parsed, twoFields};
 
 // A command. Its first field stands from place 2 on, to the end of the line or to the place that is held; the second one behind it.
 pub enum Command {
@@ -16,7 +16,7 @@ pub enum Command {
 
 // D or O, with two fields, the first one up to e.
 fn typed(letter: u8, e: usize) -> Command
-    ensures { λ r. ⌜ r ≡ typedAs letter e ⌝ }
+    ensures { λ r. ⌜ r ≡ twoFields letter e ⌝ }
 {
     if letter == b'D' {
         return Command::Default(e);

@@ -9,7 +9,7 @@ use lib.ListN.{length}
 use borrow.Author.Tests.{le-leb, lt-leb, leb-true}
 use Rattle.base.proofs.Bools.{and-left, and-right}
 use Rattle.model.specs.Sets.{Bytes}
-use Rattle.script.specs.Calls.{headSize, lastCode, codeOf, sizeOf, isCall}
+use Rattle.script.specs.Calls.{headSize, lastCode, codeOf, callSize, isCall}
 use Rattle.script.specs.declared.heads.Head.{Head}
 use Rattle.script.specs.declared.heads.Next.{Next}
 use Rattle.script.specs.declared.heads.Next.the-variants as next
@@ -23,17 +23,17 @@ module _ (s : Bytes) where
   module _ (h : Head) (e : Headed s h) (l : headSize ≤ length s) where
     pub not-whole : length s < h .d → isCall s ≡ false
     unfolding isCall
-    not-whole f = rw (le-leb headSize (length s) l, lt-leb (sizeOf s) (length s) (rw (e .d) at f))
+    not-whole f = rw (le-leb headSize (length s) l, lt-leb (callSize s) (length s) (rw (e .d) at f))
 
     module _ (w : h .d ≤ length s) where
       pub code-low : h .code < 1 → isCall s ≡ false
       unfolding isCall
-      code-low f = rw (le-leb headSize (length s) l, le-leb (sizeOf s) (length s) (rw (e .d) at w), lt-leb 1 (codeOf s) (rw (e .code) at f))
+      code-low f = rw (le-leb headSize (length s) l, le-leb (callSize s) (length s) (rw (e .d) at w), lt-leb 1 (codeOf s) (rw (e .code) at f))
 
       module _ (k : 1 ≤ h .code) where
         pub code-high : lastCode < h .code → isCall s ≡ false
         unfolding isCall
-        code-high f = rw (le-leb headSize (length s) l, le-leb (sizeOf s) (length s) (rw (e .d) at w), le-leb 1 (codeOf s) (rw (e .code) at k), lt-leb (codeOf s) lastCode (rw (e .code) at f))
+        code-high f = rw (le-leb headSize (length s) l, le-leb (callSize s) (length s) (rw (e .d) at w), le-leb 1 (codeOf s) (rw (e .code) at k), lt-leb (codeOf s) lastCode (rw (e .code) at f))
 
         pub is-called : h .code ≤ lastCode → Called s h
         unfolding isCall
@@ -41,16 +41,16 @@ module _ (s : Bytes) where
           headed = e;
           inside = (omega (arith, e .a), omega (arith, e .a, e .b), omega (arith, e .b, e .c), omega (arith, e .c, e .d), w);
           known = (k, f);
-          is = rw (le-leb headSize (length s) l, le-leb (sizeOf s) (length s) (rw (e .d) at w), le-leb 1 (codeOf s) (rw (e .code) at k), le-leb (codeOf s) lastCode (rw (e .code) at f));
+          is = rw (le-leb headSize (length s) l, le-leb (callSize s) (length s) (rw (e .d) at w), le-leb 1 (codeOf s) (rw (e .code) at k), le-leb (codeOf s) lastCode (rw (e .code) at f));
         }
 
 -- a call has a head, and lies in the script
-pub call-inside : (s : Bytes) → isCall s ≡ true → (headSize ≤ sizeOf s) × (sizeOf s ≤ length s)
+pub call-inside : (s : Bytes) → isCall s ≡ true → (headSize ≤ callSize s) × (callSize s ≤ length s)
 unfolding isCall
 call-inside s e =
-    let l : (leb headSize (length s) && leb (sizeOf s) (length s) && leb 1 (codeOf s)) ≡ true = and-left _ (leb (codeOf s) lastCode) e in
-    let m : (leb headSize (length s) && leb (sizeOf s) (length s)) ≡ true = and-left _ (leb 1 (codeOf s)) l in
-    (omega arith, leb-true (sizeOf s) (length s) (and-right (leb headSize (length s)) (leb (sizeOf s) (length s)) m))
+    let l : (leb headSize (length s) && leb (callSize s) (length s) && leb 1 (codeOf s)) ≡ true = and-left _ (leb (codeOf s) lastCode) e in
+    let m : (leb headSize (length s) && leb (callSize s) (length s)) ≡ true = and-left _ (leb 1 (codeOf s)) l in
+    (omega arith, leb-true (callSize s) (length s) (and-right (leb headSize (length s)) (leb (callSize s) (length s)) m))
 
 -- what was read
 pub read-nothing : (s : Bytes) (r : Next) → Read s r → r ≡ next.Nothing → isCall s ≡ false

@@ -66,8 +66,8 @@ abbrev pub endC : Bytes → ℕ
 endC s = endB s + num4 s 16
 
 -- and so the call itself
-abbrev pub sizeOf : Bytes → ℕ
-sizeOf s = endC s + num4 s 20
+abbrev pub callSize : Bytes → ℕ
+callSize s = endC s + num4 s 20
 
 -- from one place to another
 abbrev pub between : ℕ → ℕ → Bytes → Bytes
@@ -75,9 +75,9 @@ between a e s = take (e - a) (drop a s)
 
 -- whether s begins with a call: all of it is there, and its code is one of the codes
 unfoldable pub isCall : Bytes → Bool
-isCall s = leb headSize (length s) && leb (sizeOf s) (length s) && leb 1 (codeOf s) && leb (codeOf s) lastCode
+isCall s = leb headSize (length s) && leb (callSize s) (length s) && leb 1 (codeOf s) && leb (codeOf s) lastCode
 
 -- that call, lent an output
 unfoldable pub callIn : Bytes → Bytes → Call
 callIn s output =
-    coded (codeOf s) (numberOf s) (between headSize (endA s) s) (between (endA s) (endB s) s) (between (endB s) (endC s) s) (between (endC s) (sizeOf s) s) output
+    coded (codeOf s) (numberOf s) (between headSize (endA s) s) (between (endA s) (endB s) s) (between (endB s) (endC s) s) (between (endC s) (callSize s) s) output

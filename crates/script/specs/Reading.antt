@@ -1,11 +1,11 @@
 -- What the functions that read a script promise.
 -- Assumes nothing.
-use Prim.Native.Nat.{ℕ, _^_, _≤_, _<_}
+use Prim.Native.Nat.{_^_, _≤_, _<_}
 use mathlib.Core.Path.{_≡_}
 use mathlib.Core.Bool.{true, false}
 use lib.ListN.{length}
 use Rattle.model.specs.Sets.{Bytes}
-use Rattle.script.specs.Calls.{headSize, lastCode, codeOf, roomOf, numberOf, endA, endB, endC, sizeOf, isCall}
+use Rattle.script.specs.Calls.{headSize, lastCode, codeOf, roomOf, numberOf, endA, endB, endC, callSize, isCall}
 use Rattle.script.specs.declared.heads.Head.{Head}
 use Rattle.script.specs.declared.heads.Next.{Next}
 use Rattle.script.specs.declared.heads.Next.the-variants as next
@@ -18,7 +18,7 @@ pub record Headed (s : Bytes) (h : Head) : Type 0 where
   pub a : h .a ≡ endA s
   pub b : h .b ≡ endB s
   pub c : h .c ≡ endC s
-  pub d : h .d ≡ sizeOf s
+  pub d : h .d ≡ callSize s
   pub small : h .room < 2 ^ 32
 
 -- and of a call: its texts lie in s, and its code is one of the codes

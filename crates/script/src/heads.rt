@@ -7,7 +7,7 @@ ghost use Rattle.script.specs.Calls.{headSize};
 ghost use Rattle.script.specs.Reading.{Headed, Read};
 
 // How many bytes a head has, and the greatest code of a call.
-const HEAD_SIZE: usize = 32;
+pub const HEAD_SIZE: usize = 32;
 
 const LAST_CODE: usize = 18;
 

@@ -37,7 +37,8 @@ mode-length t = go (eqb (t - relationshipTag) 1)
     go false = omega arith
 
 -- WHOLE LINES
-module _ (o o₁ o₂ o₃ o₄ o₅ : Bytes) (at m₁ m₂ m₃ m₄ m₅ : ℕ) (l₁ : length o₁ ≡ length o) (l₂ : length o₂ ≡ length o₁) (l₃ : length o₃ ≡ length o₂) (l₄ : length o₄ ≡ length o₃) where
+module _ {o o₁ o₂ o₃ o₄ o₅ : Bytes} {at m₁ m₂ m₃ m₄ m₅ : ℕ} (l₁ : length o₁ ≡ length o) (l₂ : length o₂ ≡ length o₁) (l₃ : length o₃ ≡ length o₂)
+    (l₄ : length o₄ ≡ length o₃) where
   pub sent-type : (head key media : Bytes) → Sent o at head m₁ o₁ → Sent o₁ m₁ (quoted key) m₂ o₂ → Sent o₂ m₂ (ascii "\" ContentType=\"") m₃ o₃ → Sent o₃ m₃ (quoted media) m₄ o₄
       → Sent o₄ m₄ (ascii "\"/>\n") m₅ o₅ → Sent o at (typeText head key media) m₅ o₅
   unfolding typeText
@@ -47,7 +48,7 @@ module _ (o o₁ o₂ o₃ o₄ o₅ : Bytes) (at m₁ m₂ m₃ m₄ m₅ : ℕ
       (sent-more o₂ o₃ o₅ (ascii "\" ContentType=\"") (quoted media ++ ascii "\"/>\n") m₂ m₃ m₅ s₃ l₃
       (sent-more o₃ o₄ o₅ (quoted media) (ascii "\"/>\n") m₃ m₄ m₅ s₄ l₄ s₅)))
 
-  module _ (o₆ o₇ : Bytes) (m₆ m₇ : ℕ) (l₅ : length o₅ ≡ length o₄) (l₆ : length o₆ ≡ length o₅) where
+  module _ {o₆ o₇ : Bytes} {m₆ m₇ : ℕ} (l₅ : length o₅ ≡ length o₄) (l₆ : length o₆ ≡ length o₅) where
     pub sent-relationship : (t : ℕ) (id type target : Bytes) → Sent o at (ascii "<Relationship Id=\"") m₁ o₁ → Sent o₁ m₁ (quoted id) m₂ o₂ → Sent o₂ m₂ (ascii "\" Type=\"") m₃ o₃
         → Sent o₃ m₃ (quoted type) m₄ o₄ → Sent o₄ m₄ (ascii "\" Target=\"") m₅ o₅ → Sent o₅ m₅ (quoted target) m₆ o₆ → Sent o₆ m₆ (modeEnd t) m₇ o₇
         → Sent o at (relationshipText t id type target) m₇ o₇

@@ -16,7 +16,7 @@ use Rattle.store.specs.Rows.{Row, noRow, rowAt, tagAt, rowsOf, fieldOf}
 use Rattle.store.specs.Packages.{Shape, Sound}
 use Rattle.store.proofs.Headers.{rows-count, row-getD}
 use Rattle.streams.specs.EntryLines.{typeText, relationshipText, lineOf}
-use Rattle.streams.specs.Streams.{linesOf, Lined, Listing, Listed}
+use Rattle.streams.specs.Streams.{rowLines, Lined, Listing, Listed}
 use Rattle.streams.proofs.LineTexts.{type-length, relationship-length, default-line, override-line, relationship-line}
 
 -- ONE ROW; t is its tag
@@ -75,15 +75,15 @@ module _ (b : List ℕ) (f t : ℕ) (out : Bytes) (at : ℕ) where
       low = omega (arith, w .low);
       high = omega (arith, w .low);
       few = omega (arith, length-append (w .text) (x .text), w .few, x .few, w .low);
-      is = λ so m. w .is so m ∙ ap (λ (s : Bytes). w .text ++ s) (line so m) ∙ sym (append-assoc (w .text) (x .text) (linesOf (i + 1) t (rowsOf b)));
+      is = λ so m. w .is so m ∙ ap (λ (s : Bytes). w .text ++ s) (line so m) ∙ sym (append-assoc (w .text) (x .text) (rowLines (i + 1) t (rowsOf b)));
     }
       where
-        line : Sound b → t ≤ countOf b → linesOf i t (rowsOf b) ≡ x .text ++ linesOf (i + 1) t (rowsOf b)
+        line : Sound b → t ≤ countOf b → rowLines i t (rowsOf b) ≡ x .text ++ rowLines (i + 1) t (rowsOf b)
         line so m =
             let k : i < countOf b = omega arith in
             ap (flatMap lineOf) (slice-cons i t (rowsOf b) noRow l (omega (arith, rows-count b)))
-            ∙ ap₂ (λ (r : Row) (n : ℕ). lineOf r ++ linesOf n t (rowsOf b)) (row-getD b i k) (sym (add-one i))
-            ∙ ap (λ (s : Bytes). s ++ linesOf (i + 1) t (rowsOf b)) (sym (x .is so k))
+            ∙ ap₂ (λ (r : Row) (n : ℕ). lineOf r ++ rowLines n t (rowsOf b)) (row-getD b i k) (sym (add-one i))
+            ∙ ap (λ (s : Bytes). s ++ rowLines (i + 1) t (rowsOf b)) (sym (x .is so k))
 
     pub listed-end : t ≤ i → t ≤ slotCount → Listed b f t out at next out'
     unfolding flatMap

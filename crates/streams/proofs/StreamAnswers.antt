@@ -1,8 +1,7 @@
 -- A stream that is sent, and the answer of a call that writes it in two passes.
 -- Assumes nothing.
 use Prim.Native.Nat.{ℕ, _≤_, _<_}
-use mathlib.Core.Path.{_≡_, refl, sym, _∙_}
-use mathlib.Core.Bool.{true}
+use mathlib.Core.Path.{_≡_, refl, sym}
 use mathlib.Core.List.{List, [], _++_}
 use native.Mathlib.Omega.{arith}
 use lib.ListN.{length}
@@ -22,14 +21,14 @@ use Rattle.contract.specs.Holds.{Holds}
 use Rattle.contract.specs.Ran.{Ran}
 use Rattle.contract.specs.Opening.{Open}
 use Rattle.contract.proofs.Rans.{wrote}
-use Rattle.streams.specs.Streams.{linesOf, streamOf, runSize, Listed, Streamed, Answered}
+use Rattle.streams.specs.Streams.{streamOf, runSize, Listed, Streamed, Answered, rowLines}
 use Rattle.streams.proofs.RowSizes.{run-used}
 
 pub streamed : (b : List ℕ) (f t : ℕ) (head foot o o₁ o₂ o₃ o₄ : Bytes) (m₁ m₂ m₃ m₄ : ℕ) → length o₁ ≡ length o → length o₂ ≡ length o₁ → length o₃ ≡ length o₂
     → Sent o 0 declaration m₁ o₁ → Sent o₁ m₁ head m₂ o₂ → Listed b f t o₂ m₂ m₃ o₃ → Sent o₃ m₃ foot m₄ o₄ → Streamed b f t head foot o m₄ o₄
 streamed b f t head foot o o₁ o₂ o₃ o₄ m₁ m₂ m₃ m₄ l₁ l₂ l₃ s₁ s₂ x s₄ = record {
   is = λ so k.
-      let L = linesOf f t (rowsOf b) in
+      let L = rowLines f t (rowsOf b) in
       sent-more o o₁ o₄ declaration (head ++ (L ++ foot)) 0 m₁ m₄ s₁ l₁
       (sent-more o₁ o₂ o₄ head (L ++ foot) m₁ m₂ m₄ s₂ l₂
       (sent-more o₂ o₃ o₄ L foot m₂ m₃ m₄ (sent-as o₂ o₃ (x .text) L m₂ m₃ (sym (x .is so k)) (x .sent)) l₃ s₄));

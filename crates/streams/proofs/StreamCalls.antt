@@ -2,7 +2,6 @@
 -- Assumes nothing.
 use Prim.Native.Nat.{ℕ, _+_}
 use mathlib.Core.Path.{_≡_, refl, ap, ap₂, sym, subst, _∙_}
-use mathlib.Core.Bool.{true}
 use mathlib.Core.List.{List, [], _∷_, _++_, map, append-assoc, flatMap}
 use native.Mathlib.Nat.{add-zero}
 use lib.ListN.{length, length-append, length-map}
@@ -35,7 +34,7 @@ use Rattle.contract.proofs.ItemRows.{item-count}
 use Rattle.contract.proofs.SetRows.{none-before}
 use Rattle.parts.proofs.TextAnswers.{text-refused}
 use Rattle.streams.specs.EntryLines.{lineOf}
-use Rattle.streams.specs.Streams.{linesOf, streamOf, Answered}
+use Rattle.streams.specs.Streams.{rowLines, streamOf, Answered}
 use Rattle.streams.proofs.LineTexts.{default-row-line, override-row-line, relationship-row-line}
 use Rattle.streams.proofs.StreamAnswers.{stream-ran}
 
@@ -76,7 +75,7 @@ module _ (b : List ℕ) (S : State) (h : Holds b S) where
         let e : rowsOf b ≡ I S ++ (X ++ R S) = h .lies .rows ∙ ap (λ (l : List Row). I S ++ l) (sym (append-assoc (D S) (O S) (R S))) in
         rw (a, c, e) (slice-append (I S) (X ++ R S) 0 (length X) ∙ take-append-seam X (R S))
 
-    types-lines : linesOf f t (rowsOf b) ≡ flatMap defaultLine (S .defaults) ++ flatMap overrideLine (S .overrides)
+    types-lines : rowLines f t (rowsOf b) ≡ flatMap defaultLine (S .defaults) ++ flatMap overrideLine (S .overrides)
     types-lines =
         ap (flatMap lineOf) types-rows
         ∙ flatMap-append lineOf (D S) (O S)

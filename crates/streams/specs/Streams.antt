@@ -17,8 +17,8 @@ use Rattle.store.specs.Packages.{Sound}
 use Rattle.streams.specs.EntryLines.{lineOf}
 
 -- the lines of the rows from f up to t, t itself not included
-abbrev pub linesOf : ℕ → ℕ → List Row → Bytes
-linesOf f t rows = flatMap lineOf (slice f t rows)
+abbrev pub rowLines : ℕ → ℕ → List Row → Bytes
+rowLines f t rows = flatMap lineOf (slice f t rows)
 
 -- no line is longer: a field is below 2 ^ 32 bytes, and each of its bytes is written as five at most
 abbrev pub lineLimit : ℕ
@@ -38,18 +38,18 @@ pub record Listing (b : List ℕ) (f t : ℕ) (out : List ℕ) (at i next : ℕ)
   pub low : f ≤ i
   pub high : i - f ≤ t - f
   pub few : length text ≤ (i - f) * lineLimit
-  pub is : Sound b → t ≤ countOf b → linesOf f t (rowsOf b) ≡ text ++ linesOf i t (rowsOf b)
+  pub is : Sound b → t ≤ countOf b → rowLines f t (rowsOf b) ≡ text ++ rowLines i t (rowsOf b)
 
 -- all of them were sent
 pub record Listed (b : List ℕ) (f t : ℕ) (out : List ℕ) (at next : ℕ) (out' : List ℕ) : Type 0 where
   pub text : Bytes
   pub sent : Sent out at text next out'
   pub few : length text ≤ slotCount * lineLimit
-  pub is : Sound b → t ≤ countOf b → text ≡ linesOf f t (rowsOf b)
+  pub is : Sound b → t ≤ countOf b → text ≡ rowLines f t (rowsOf b)
 
 -- the XML declaration, a head, the lines of the rows from f to t, and a foot
 abbrev pub streamOf : List ℕ → ℕ → ℕ → Bytes → Bytes → Bytes
-streamOf b f t head foot = declaration ++ (head ++ (linesOf f t (rowsOf b) ++ foot))
+streamOf b f t head foot = declaration ++ (head ++ (rowLines f t (rowsOf b) ++ foot))
 
 pub record Streamed (b : List ℕ) (f t : ℕ) (head foot : Bytes) (out : List ℕ) (next : ℕ) (out' : List ℕ) : Type 0 where
   pub is : Sound b → t ≤ countOf b → Sent out 0 (streamOf b f t head foot) next out'

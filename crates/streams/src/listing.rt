@@ -1,6 +1,8 @@
 // A stream with the lines of a run of rows.
 use crate::markup::put_relationship;
+use crate::markup::put_relationship_line;
 use crate::markup::put_type;
+use crate::markup::put_type_line;
 use contract::DEFAULT_TAG;
 use contract::OVERRIDE_TAG;
 use output::writing::Written;
@@ -24,7 +26,7 @@ fn put_line(pkg: &[u8], i: usize, out: &mut [u8], at: usize) -> usize
 {
     let t = tag(pkg, i);
     if t == DEFAULT_TAG {
-        return put_type(
+        return put_type_line(
             out,
             at,
             b"<Default Extension=\"",
@@ -33,7 +35,7 @@ fn put_line(pkg: &[u8], i: usize, out: &mut [u8], at: usize) -> usize
         );
     }
     if t == OVERRIDE_TAG {
-        return put_type(
+        return put_type_line(
             out,
             at,
             b"<Override PartName=\"",
@@ -41,7 +43,7 @@ fn put_line(pkg: &[u8], i: usize, out: &mut [u8], at: usize) -> usize
             field(pkg, i, 1),
         );
     }
-    put_relationship(
+    put_relationship_line(
         out,
         at,
         t,

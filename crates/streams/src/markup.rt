@@ -3,7 +3,7 @@ use chars::search::find;
 use contract::EXTERNAL_TAG;
 use output::writing::emit;
 ghost use mathlib.Core.List.{_++_};
-ghost use Prim.Native.Nat.{_^_, _≤_, _<_};
+ghost use Prim.Native.Nat.{_+_, _*_, _^_, _≤_, _<_};
 ghost use lib.ListN.{length};
 ghost use Rattle.chars.specs.Bytes.{ascii};
 ghost use Rattle.output.specs.Sends.{Sent};
@@ -23,6 +23,7 @@ fn put_stretch(out: &mut [u8], at: usize, s: &[u8]) -> usize
 fn put_quoted(out: &mut [u8], from: usize, s: &[u8]) -> usize
     requires { ⌜ (from ≤ 2 ^ 54) × (length (now s) < 2 ^ 32) ⌝ }
     ensures { λ r. ⌜ Sent (now (out .entry)) from (quoted (now (s .entry))) r (now (out .exit)) ⌝ }
+    ensures { λ r. ⌜ r ≤ from + 5 * length (now (s .entry)) ⌝ }
 {
     let mut at = from;
     let mut i = 0;
@@ -36,7 +37,7 @@ fn put_quoted(out: &mut [u8], from: usize, s: &[u8]) -> usize
 }
 
 // The line of a Default or an Override: how it begins, then its key and its media type.
-pub(crate) fn put_type(out: &mut [u8], at: usize, head: &[u8], key: &[u8], media: &[u8]) -> usize
+pub(crate) fn put_type_line(out: &mut [u8], at: usize, head: &[u8], key: &[u8], media: &[u8]) -> usize
     requires { ⌜ (at ≤ 2 ^ 53) × (length (now head) ≤ 100) × (length (now key) < 2 ^ 32) × (length (now media) < 2 ^ 32) ⌝ }
     ensures { λ r. ⌜ Sent (now (out .entry)) at (typeText (now (head .entry)) (now (key .entry)) (now (media .entry))) r (now (out .exit)) ⌝ }
 {
@@ -59,7 +60,7 @@ fn put_mode(out: &mut [u8], at: usize, tag: usize) -> usize
 }
 
 // The line of a relationship with this tag.
-pub(crate) fn put_relationship(
+pub(crate) fn put_relationship_line(
     out: &mut [u8],
     at: usize,
     tag: usize,

@@ -24,10 +24,9 @@ use Rattle.contract.specs.Entries.{Entered, Dropped}
 use Rattle.contract.specs.Ran.{Ran}
 use Rattle.contract.specs.Opening.{Open}
 use Rattle.contract.proofs.Rans.{ran-changed, field-refused}
-use Rattle.names.proofs.Lengths.{extension-some, name-some}
+use Rattle.names.proofs.Lengths.{extension-some, name-some, part-name-size, extension-size}
 use Rattle.contract.proofs.FirstRefusals.{first-met, first-unmet, first-one}
 use Rattle.contract.proofs.SetStates.{Among, defaults-among, overrides-among, default-slot, override-slot, drop-step, put-step}
-use Rattle.names.proofs.Lengths.{part-name-size, extension-size}
 use Rattle.model.proofs.Refusals.{all-none, unmet}
 use Rattle.contract.proofs.SetCalls.{Putting, Dropping}
 

@@ -18,7 +18,7 @@ use Rattle.model.specs.Opened.{everything}
 use Rattle.contract.specs.Answers.{ofTotalled}
 use Rattle.contract.specs.declared.answers.Totalled.{Totalled}
 use Rattle.contract.specs.declared.answers.Totalled.the-variants as totalled
-use Rattle.worked.specs.Last.{wrote, typedAs, joinedFrom, linkedText}
+use Rattle.worked.specs.Last.{wrote, tiffType, joinedFrom, linkedText}
 
 -- an output that suffices takes the text
 wrote-fits : (t out : Bytes) → length t ≤ length out → filled 1 out (Text t []) ≡ wrote t out
@@ -61,13 +61,13 @@ typing =
     ∷ Changes (DropOverride (ascii "/a.TIF"))
     ∷ []
 
-typed-printed : (room size : ℕ) → printed (after room (empty 100) typing) size (MediaType (ascii "/A.tif")) ≡ Text typedAs []
+typed-printed : (room size : ℕ) → printed (after room (empty 100) typing) size (MediaType (ascii "/A.tif")) ≡ Text tiffType []
 unfolding everything
 typed-printed room size = refl
 
-pub typed-last : (room : ℕ) (out : Bytes) → 10 ≤ length out → getD (answers room (empty 100) (typing ++ Prints (MediaType (ascii "/A.tif")) out ∷ [])) 4 done ≡ wrote typedAs out
+pub typed-last : (room : ℕ) (out : Bytes) → 10 ≤ length out → getD (answers room (empty 100) (typing ++ Prints (MediaType (ascii "/A.tif")) out ∷ [])) 4 done ≡ wrote tiffType out
 unfolding answers after
-typed-last room out h = ap (filled 1 out) (typed-printed room (length out)) ∙ wrote-fits typedAs out h
+typed-last room out h = ap (filled 1 out) (typed-printed room (length out)) ∙ wrote-fits tiffType out h
 
 -- A PART IN PIECES
 abbrev pub joining : Bytes → List Call

@@ -5,8 +5,8 @@ use Prim.Native.Char.{code}
 use mathlib.Core.Path.{_≡_, refl, sym, ap, _∙_}
 use mathlib.Core.List.{List, [], _∷_, _++_}
 use native.Mathlib.Omega.{arith}
-use lib.ListN.{length, getD, drop}
-use borrow.Author.Tests.{le-ltb, le-leb}
+use lib.ListN.{length, getD}
+use borrow.Author.Tests.{le-ltb}
 use Rattle.chars.specs.Bytes.{ascii}
 use Rattle.output.specs.Answers.{Answer, answer, Text, filled}
 use Rattle.output.proofs.Answering.{filled-fits}
@@ -17,7 +17,9 @@ use Rattle.model.specs.Opened.{everything}
 use Rattle.contract.specs.Answers.{ofFound}
 use Rattle.contract.specs.declared.answers.Found.{Found}
 use Rattle.contract.specs.declared.answers.Found.the-variants.{Length, Refused}
-use Rattle.contract.specs.Ran.{Ran}
+use Rattle.contract.specs.Ran.{Ran, Runs}
+use Rattle.package.specs.Demand.{answersOf, callsOf}
+use Rattle.package.proofs.EveryRun.{every-run}
 use Rattle.relationships.specs.Resolutions.{ofResolution}
 use Rattle.relationships.specs.declared.resolving.Resolution.{Resolution}
 use Rattle.relationships.specs.declared.resolving.Resolution.the-variants as resolution
@@ -38,9 +40,15 @@ unfolding everything
 worked-last room = refl
 
 -- a start of so few bytes is accepted
-pub accepted : (C : ℕ) (o p : Bytes) (a : Answer) → C ≤ 232 → 33000 ≤ length o → Ran (Start C) o a p → a .number ≡ 0
+accepted : (C : ℕ) (o p : Bytes) (a : Answer) → C ≤ 232 → 33000 ≤ length o → Ran (Start C) o a p → a .number ≡ 0
 unfolding startRefusal
 accepted C o p a k h r = ap (λ (x : Answer). x .number) (r .begun .0 (rw (le-ltb 1000000 C (omega arith), le-ltb (length o) (C + 32768) (omega arith))) .0)
+
+-- so the answers to what follows are the ledger's: here the one at place n
+pub ledger-answer : (C n : ℕ) {o p q : Bytes} {a : Answer} {s : List (Call × Answer)} → C ≤ 232 → 33000 ≤ length o → Ran (Start C) o a p
+    → Runs p s q → getD (answersOf s) n done ≡ getD (answers (length o) (empty C) (callsOf s)) n done
+ledger-answer C n {o} {p} {q} {a} {s} k h r rs =
+    ap (λ (l : List Answer). getD l n done) (every-run C o p q a s r (accepted C o p a k h r) rs .answered)
 
 -- a length is no refusal
 pub found-length : (r : Found) (n : ℕ) → ofFound r ≡ answer 0 (n ∷ []) [] → r ≡ Length n

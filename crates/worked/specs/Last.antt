@@ -19,8 +19,8 @@ ledTo out = answer 0 (48 ∷ 0 ∷ 1 ∷ []) (ledText ++ drop 48 out)
 abbrev pub wrote : List ℕ → List ℕ → Answer
 wrote text out = answer 0 (length text ∷ []) (text ++ drop (length text) out)
 
-abbrev pub typedAs : List ℕ
-typedAs = ascii "image/tiff"
+abbrev pub tiffType : List ℕ
+tiffType = ascii "image/tiff"
 
 abbrev pub joinedFrom : List ℕ
 joinedFrom = ascii "bcd"

@@ -33,7 +33,7 @@ ghost use Rattle.names.specs.Iris.{packageIri};
 ghost use Rattle.output.specs.Answers.{ofWritten};
 ghost use Rattle.pack.specs.Pack.{unfragmented, packIri, partOrRoot, partOf, Found as FoundAt, ofResolved, located};
 ghost use Rattle.relationships.specs.Resolutions.{ofResolution};
-ghost use Rattle.worked.specs.Last.{ledTo, wrote, typedAs, joinedFrom, linkedText};
+ghost use Rattle.worked.specs.Last.{ledTo, wrote, tiffType, joinedFrom, linkedText};
 
 // A tile is put, the same name in capitals is refused, pieces of another tile follow: the first tile is found, five bytes long.
 fn worked(p: &mut [u8]) -> Found
@@ -83,7 +83,7 @@ fn counted(p: &mut [u8]) -> Totalled
 // An Override is put and dropped: the Default tells the tile's media type again.
 fn typed(p: &mut [u8], out: &mut [u8]) -> Written
     requires { ⌜ (33000 ≤ length (now p)) × (10 ≤ length (now out)) ⌝ }
-    ensures { λ r. ⌜ ofWritten r (now (out .exit)) ≡ wrote typedAs (now (out .entry)) ⌝ }
+    ensures { λ r. ⌜ ofWritten r (now (out .exit)) ≡ wrote tiffType (now (out .entry)) ⌝ }
 {
     start(p, 100);
     put_item(p, b"/a.tif", b"tile");

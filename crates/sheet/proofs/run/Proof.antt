@@ -5,12 +5,6 @@ use Rattle.sheet.proofs.Accounts.{ready-begin, ready-last, ready-whole}
 use Rattle.sheet.proofs.run.Statement.{statement}
 use Rattle.sheet.proofs.run.Tie as tie
 
-run-all-requires : tie.Need-run-all-requires
-run-all-requires c κs =
-    let at-call = c .before .before .before .before .before .before .before .before in
-    let at-start = at-call .before .before .before .before .before .before in
-    ready-begin _ _ _ (started-holds _ _ _ (at-start .pre .0) (at-call .start .ensures)) (at-start .pre .1) (at-start .pre .2)
-
 slice-reshare-prefix-print : tie.Need-slice-reshare-prefix-print
 slice-reshare-prefix-print c =
     let at-finish = c .before .before .before .before in
@@ -33,7 +27,6 @@ returns c =
 
 pub run-spec : {M : Type 1} → statement M
 run-spec =
-    tie.close
-    (tie.spec
-    (λ c κs. search needs) run-all-requires (λ c κs. search needs) slice-reshare-prefix-print slice-aggregate-print (λ c κs. search needs)
-    (λ c. search needs) (λ c. search needs) (λ c. search needs) (λ c. search needs) returns)
+    tie.close (tie.spec
+    (λ c κs. search needs) (λ c κs. search (started-holds, ready-begin)) (λ c κs. search needs) slice-reshare-prefix-print
+    slice-aggregate-print (λ c κs. search needs) (λ c. search needs) (λ c. search needs) (λ c. search needs) (λ c. search needs) returns)

@@ -8,7 +8,8 @@ use Rattle.sheet.proofs.run_all.Tie as tie
 
 abbrev Inv-loop : tie.InvT-loop
 Inv-loop pkg₀ line₀ piece₀ out₀ read₀ written₀ n₀ turns₀ pkg line piece out read written n turns =
-    (length pkg ≡ length pkg₀) × (length line ≡ length line₀) × (length piece ≡ length piece₀) × (length out ≡ length out₀) × Ready pkg line n [] out read written
+    (length pkg ≡ length pkg₀) × (length line ≡ length line₀) × (length piece ≡ length piece₀) × (length out ≡ length out₀)
+    × Ready pkg line n [] out read written
 
 abbrev μ-loop : tie.MeasureT-loop
 μ-loop pkg₀ line₀ piece₀ out₀ read₀ written₀ n₀ turns₀ pkg line piece out read written n turns = turns
@@ -20,12 +21,14 @@ run-some-requires c κs =
 
 sub-turns : tie.Need-sub-turns Inv-loop μ-loop
 sub-turns c =
-    let in-loop = c .before .before .before .before .before .before .before .before .before .before .before .before .before .before .before .before .before in
+    let at-run-some = c .before .before .before .before .before .before .before .before in
+    let in-loop = at-run-some .before .before .before .before .before .before .before .before .before in
     omega (arith, in-loop .loop-test .taken)
 
 loop-less : tie.Need-loop-less Inv-loop μ-loop
 loop-less c =
-    let in-loop = c .before .before .before .before .before .before .before .before .before .before .before .before .before .before .before .before .before in
+    let at-run-some = c .before .before .before .before .before .before .before .before in
+    let in-loop = at-run-some .before .before .before .before .before .before .before .before .before in
     omega (arith, in-loop .loop-test .taken)
 
 loop-again : tie.Need-loop-again Inv-loop μ-loop
@@ -64,8 +67,7 @@ returns c =
 
 pub run-all-spec : {M : Type 1} → statement M
 run-all-spec =
-    tie.close
-    (tie.spec
-    Inv-loop μ-loop (λ c. (refl, refl, refl, refl, c .before .before .before .before .pre)) run-some-requires sub-turns loop-less loop-again
-    same-length same-length-2 same-length-3 same-length-4 returns (λ c. c .before .loop .inv .0) (λ c. c .before .loop .inv .1)
+    tie.close (tie.spec
+    Inv-loop μ-loop (λ c. (refl, refl, refl, refl, c .before .before .before .before .pre)) run-some-requires sub-turns loop-less
+    loop-again same-length same-length-2 same-length-3 same-length-4 returns (λ c. c .before .loop .inv .0) (λ c. c .before .loop .inv .1)
     (λ c. c .before .loop .inv .2) (λ c. c .before .loop .inv .3) (λ c. c .before .loop .inv .4))

@@ -1,5 +1,5 @@
 use Prim.Native.Nat.{_-_, _≤_}
-use mathlib.Core.Path.{_≡_, refl, _∙_}
+use mathlib.Core.Path.{_≡_, _∙_}
 use native.Mathlib.Omega.{arith}
 use lib.ListN.{length, drop}
 use borrow.Author.Needs.{needs}
@@ -10,16 +10,11 @@ use Rattle.sheet.proofs.run_some.Tie as tie
 
 abbrev Inv-loop : tie.InvT-loop
 Inv-loop pkg₀ line₀ n out₀ read written₀ k came left₀ i₀ pkg line out written left i =
-    (length pkg ≡ length pkg₀) × (length line ≡ length line₀) × (length out ≡ length out₀) × (i ≤ length came) × Ready pkg line left (drop i came) out read written
+    (length pkg ≡ length pkg₀) × (length line ≡ length line₀) × (length out ≡ length out₀) × (i ≤ length came)
+    × Ready pkg line left (drop i came) out read written
 
 abbrev μ-loop : tie.MeasureT-loop
 μ-loop pkg₀ line₀ n out₀ read written₀ k came left₀ i₀ pkg line out written left i = length came - i
-
-loop-holds : tie.Need-loop-holds Inv-loop μ-loop
-loop-holds c =
-    let at-read = c .before .before .before .before in
-    let at-start = at-read .before .before .before .before .before .before .before in
-    (refl, refl, refl, omega arith, ready-read _ _ _ _ _ _ (at-start .pre) _ _ (at-read .read-some .ensures .1))
 
 slice-reshare-prefix-print : tie.Need-slice-reshare-prefix-print Inv-loop μ-loop
 slice-reshare-prefix-print c =
@@ -51,13 +46,9 @@ loop-again c =
     ( at-feed .feed .kept .0 ∙ inv .0, line ∙ inv .1, out ∙ inv .2, at-feed .feed .ensures .onward (in-loop .loop-test .taken) .1,
     ready-more _ _ _ _ _ _ _ _ (inv .4) (inv .3) _ _ _ _ _ _ (at-feed .feed .ensures) out line _ (c .print .ensures), )
 
-returns : tie.Need-returns Inv-loop μ-loop
-returns c = ready-through _ _ _ _ _ _ _ _ (c .before .loop .inv .4) (c .loop-test .left)
-
 pub run-some-spec : {M : Type 1} → statement M
 run-some-spec =
-    tie.close
-    (tie.spec
-    Inv-loop μ-loop (λ c κs. search needs) (λ c. search needs) (λ c. search needs) loop-holds (λ c κs. search needs)
+    tie.close (tie.spec
+    Inv-loop μ-loop (λ c κs. search needs) (λ c. search needs) (λ c. search needs) (λ c. search (ready-read, needs)) (λ c κs. search needs)
     slice-reshare-prefix-print slice-aggregate-print (λ c κs. search needs) loop-less loop-again (λ c. c .before .loop .inv .0)
-    (λ c. c .before .loop .inv .1) (λ c. search needs) (λ c. c .before .loop .inv .2) returns)
+    (λ c. c .before .loop .inv .1) (λ c. search needs) (λ c. c .before .loop .inv .2) (λ c. search ready-through))

@@ -1,12 +1,7 @@
 use native.Mathlib.Omega.{arith}
-use mathlib.Core.Path.{ap, _∙_}
-use mathlib.Core.List.{List}
-use lib.ListN.{getD}
-use Rattle.output.specs.Answers.{Answer}
-use Rattle.model.specs.Calls.{done}
+use mathlib.Core.Path.{_∙_}
 use Rattle.contract.specs.Ran.{none, more}
-use Rattle.package.proofs.EveryRun.{every-run}
-use Rattle.worked.proofs.WorkedList.{accepted}
+use Rattle.worked.proofs.WorkedList.{ledger-answer}
 use Rattle.worked.proofs.MoreLists.{totals-of, counted-last}
 use borrow.Author.Needs.{needs}
 use Rattle.worked.proofs.counted.Statement.{statement}
@@ -32,17 +27,16 @@ returns c =
     let at-put-item = at-put-item2 .before .before .before .before .before .before in
     let at-start = at-put-item .before .before .before .before .before .before in
     let entry = at-start .before .before .before in
-    let k = every-run _ _ _ _ _ _ (at-start .start .ensures) (accepted 100 _ _ _ (omega arith) (entry .pre) (at-start .start .ensures))
+    totals-of (c .totals .result) 1 1 11 (omega arith) (ledger-answer 100 5 (omega arith) (entry .pre) (at-start .start .ensures)
     (more (at-put-item .put-item .ensures)
     (more (at-put-item2 .put-item2 .ensures)
     (more (at-put-default .put-default .ensures)
-    (more (at-drop-item .drop-item .ensures) (more (at-drop-default .drop-default .ensures) (more (c .totals .ensures) none)))))) in
-    totals-of (c .totals .result) 1 1 11 (omega arith) (ap (λ (l : List Answer). getD l 5 done) (k .answered) ∙ counted-last _)
+    (more (at-drop-item .drop-item .ensures) (more (at-drop-default .drop-default .ensures) (more (c .totals .ensures) none))))))
+    ∙ counted-last _)
 
 pub counted-spec : {M : Type 1} → statement M
 counted-spec =
-    tie.close
-    (tie.spec
+    tie.close (tie.spec
     (λ c κs. search needs) (λ c. search needs) (λ c. search needs) (λ c κs. search needs) (λ c. search needs) (λ c. search needs)
     (λ c κs. search needs) (λ c. search needs) (λ c. search needs) (λ c κs. search needs) (λ c. search needs) (λ c κs. search needs)
     (λ c. search needs) (λ c κs. search needs) (λ c κs. search needs) same-length returns)

@@ -1,12 +1,7 @@
 use native.Mathlib.Omega.{arith}
-use mathlib.Core.Path.{ap, _∙_}
-use mathlib.Core.List.{List}
-use lib.ListN.{getD}
-use Rattle.output.specs.Answers.{Answer}
-use Rattle.model.specs.Calls.{done}
+use mathlib.Core.Path.{_∙_}
 use Rattle.contract.specs.Ran.{none, more}
-use Rattle.package.proofs.EveryRun.{every-run}
-use Rattle.worked.proofs.WorkedList.{accepted}
+use Rattle.worked.proofs.WorkedList.{ledger-answer}
 use Rattle.worked.proofs.MoreLists.{joined-last}
 use borrow.Author.Needs.{needs}
 use Rattle.worked.proofs.joined.Statement.{statement}
@@ -20,15 +15,14 @@ returns c =
     let at-put-item = at-put-item2 .before .before .before .before .before .before in
     let at-start = at-put-item .before .before .before .before .before .before in
     let entry = at-start .before .before .before .before .before in
-    let k = every-run _ _ _ _ _ _ (at-start .start .ensures) (accepted 100 _ _ _ (omega arith) (entry .pre .0) (at-start .start .ensures))
+    ledger-answer 100 3 (omega arith) (entry .pre .0) (at-start .start .ensures)
     (more (at-put-item .put-item .ensures)
-    (more (at-put-item2 .put-item2 .ensures) (more (at-part-at .part-at .ensures) (more (at-read-part .read-part .ensures) none)))) in
-    ap (λ (l : List Answer). getD l 3 done) (k .answered) ∙ joined-last _ _ _ (entry .pre .1)
+    (more (at-put-item2 .put-item2 .ensures) (more (at-part-at .part-at .ensures) (more (at-read-part .read-part .ensures) none))))
+    ∙ joined-last _ _ _ (entry .pre .1)
 
 pub joined-spec : {M : Type 1} → statement M
 joined-spec =
-    tie.close
-    (tie.spec
+    tie.close (tie.spec
     (λ c κs. search needs) (λ c. search needs) (λ c. search needs) (λ c κs. search needs) (λ c. search needs) (λ c. search needs)
     (λ c κs. search needs) (λ c κs. search needs) (λ c. search needs) (λ c κs. search needs) (λ c. search needs) (λ c. search needs)
     (λ c. search needs) returns)

@@ -1,12 +1,7 @@
 use native.Mathlib.Omega.{arith}
-use mathlib.Core.Path.{ap, _∙_}
-use mathlib.Core.List.{List}
-use lib.ListN.{getD}
-use Rattle.output.specs.Answers.{Answer}
-use Rattle.model.specs.Calls.{done}
+use mathlib.Core.Path.{_∙_}
 use Rattle.contract.specs.Ran.{none, more}
-use Rattle.package.proofs.EveryRun.{every-run}
-use Rattle.worked.proofs.WorkedList.{accepted, led-last}
+use Rattle.worked.proofs.WorkedList.{ledger-answer, led-last}
 use borrow.Author.Needs.{needs}
 use Rattle.worked.proofs.led.Statement.{statement}
 use Rattle.worked.proofs.led.Tie as tie
@@ -29,17 +24,16 @@ returns c =
     let at-put-default = at-put-item .before .before .before .before .before .before in
     let at-start = at-put-default .before .before .before .before .before .before in
     let entry = at-start .before .before .before .before .before in
-    let k = every-run _ _ _ _ _ _ (at-start .start .ensures) (accepted 200 _ _ _ (omega arith) (entry .pre .0) (at-start .start .ensures))
+    ledger-answer 200 4 (omega arith) (entry .pre .0) (at-start .start .ensures)
     (more (at-put-default .put-default .ensures)
     (more (at-put-item .put-item .ensures)
     (more (at-put-relationship .put-relationship .ensures)
-    (more (at-write-types .write-types .ensures) (more (at-resolve-relationship .resolve-relationship .ensures) none))))) in
-    ap (λ (l : List Answer). getD l 4 done) (k .answered) ∙ led-last _ _ _ (entry .pre .1)
+    (more (at-write-types .write-types .ensures) (more (at-resolve-relationship .resolve-relationship .ensures) none)))))
+    ∙ led-last _ _ _ (entry .pre .1)
 
 pub led-spec : {M : Type 1} → statement M
 led-spec =
-    tie.close
-    (tie.spec
+    tie.close (tie.spec
     (λ c κs. search needs) (λ c. search needs) (λ c. search needs) (λ c κs. search needs) (λ c. search needs) (λ c. search needs)
     (λ c κs. search needs) (λ c. search needs) (λ c. search needs) (λ c. search needs) (λ c. search needs) (λ c κs. search needs)
     (λ c κs. search needs) (λ c. search needs) (λ c. search needs) (λ c. search needs) (λ c κs. search needs) same-length

@@ -1,12 +1,7 @@
 use native.Mathlib.Omega.{arith}
-use mathlib.Core.Path.{ap, _∙_}
-use mathlib.Core.List.{List}
-use lib.ListN.{getD}
-use Rattle.output.specs.Answers.{Answer}
-use Rattle.model.specs.Calls.{done}
+use mathlib.Core.Path.{_∙_}
 use Rattle.contract.specs.Ran.{none, more}
-use Rattle.package.proofs.EveryRun.{every-run}
-use Rattle.worked.proofs.WorkedList.{accepted}
+use Rattle.worked.proofs.WorkedList.{ledger-answer}
 use Rattle.worked.proofs.MoreLists.{linked-last}
 use borrow.Author.Needs.{needs}
 use Rattle.worked.proofs.linked.Statement.{statement}
@@ -29,16 +24,15 @@ returns c =
     let at-put-relationship = at-put-relationship2 .before .before .before .before .before .before .before .before in
     let at-start = at-put-relationship .before .before .before .before .before .before .before .before in
     let entry = at-start .before .before .before .before in
-    let k = every-run _ _ _ _ _ _ (at-start .start .ensures) (accepted 100 _ _ _ (omega arith) (entry .pre .0) (at-start .start .ensures))
+    ledger-answer 100 3 (omega arith) (entry .pre .0) (at-start .start .ensures)
     (more (at-put-relationship .put-relationship .ensures)
     (more (at-put-relationship2 .put-relationship2 .ensures)
-    (more (at-drop-relationship .drop-relationship .ensures) (more (at-write-relationships .write-relationships .ensures) none)))) in
-    ap (λ (l : List Answer). getD l 3 done) (k .answered) ∙ linked-last _ _ (entry .pre .1)
+    (more (at-drop-relationship .drop-relationship .ensures) (more (at-write-relationships .write-relationships .ensures) none))))
+    ∙ linked-last _ _ (entry .pre .1)
 
 pub linked-spec : {M : Type 1} → statement M
 linked-spec =
-    tie.close
-    (tie.spec
+    tie.close (tie.spec
     (λ c κs. search needs) (λ c. search needs) (λ c. search needs) (λ c. search needs) (λ c. search needs) (λ c κs. search needs)
     (λ c. search needs) (λ c. search needs) (λ c. search needs) (λ c. search needs) (λ c κs. search needs) (λ c. search needs)
     (λ c. search needs) (λ c κs. search needs) (λ c. search needs) (λ c κs. search needs) same-length (λ c. search needs) returns)

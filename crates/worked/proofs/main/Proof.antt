@@ -20,14 +20,10 @@ expect-requires-4 c κs =
     rw (eq-eqb (told .0 .0) 1 (cc (told .1, is)), eq-eqb (told .0 .1 .0) 1 (cc (told .1, is)), eq-eqb (told .0 .1 .1 .0) 11
     (cc (told .1, is)))
 
-expect-requires-5 : tie.Need-expect-requires-5
-expect-requires-5 c κs = eq-eqb _ 5 (ap length (c .before .viewed .ensures))
-
 pub main-spec : {M : Type 1} → statement M
 main-spec =
-    tie.close
-    (tie.spec
+    tie.close (tie.spec
     (λ c. search needs) (λ c κs. search needs) (λ c. search needs) (λ c. search needs) (λ c κs. search needs) (λ c. search needs)
     expect-requires-2 (λ c. search needs) (λ c κs. search needs) (λ c. search needs) (λ c. search needs) (λ c κs. search needs)
     (λ c. search needs) expect-requires-4 (λ c. search needs) (λ c κs. search needs) (λ c κs. search needs) (λ c. search needs)
-    (λ c κs. search needs) expect-requires-5 (λ c. search needs))
+    (λ c κs. search needs) (λ c κs. eq-eqb _ 5 (ap length (c .before .viewed .ensures))) (λ c. search needs))

@@ -32,26 +32,9 @@ returns c =
     c .before .before .resolve-pack .ensures ∙ resolved-back _ _ _ (h .0) (h .1) (h .2) (at-compose .compose .result) _ _ _
     (at-compose .compose .ensures) (c .before .before .before .before .before .before .n .given .1)
 
-returns-2 : tie.Need-returns-2
-returns-2 c =
-    let at-compose = c .before .before .before .before in
-    let start = at-compose .before .before .before .before .before .before in
-    let h = start .pre in
-    absurd (never-short _ _ _ (h .0) (h .1) (h .2) (at-compose .compose .result) _ _ (at-compose .compose .ensures)
-    (c .enum-told .given .1))
-
-returns-3 : tie.Need-returns-3
-returns-3 c =
-    let at-compose = c .before .before .before .before .before in
-    let start = at-compose .before .before .before .before .before .before in
-    let h = start .pre in
-    absurd (never-refused _ _ _ (h .0) (h .1) (h .2) (at-compose .compose .result) _ _ (at-compose .compose .ensures)
-    (c .before .k .given .1))
-
 pub returned-spec : {M : Type 1} → statement M
 returned-spec =
-    tie.close
-    (tie.spec
+    tie.close (tie.spec
     (λ c κs. search needs) (λ c. search needs) slice-reshare-prefix-resolve-pack slice-aggregate-resolve-pack (λ c κs. search needs)
-    (λ c. search needs) (λ c. search needs) (λ c. search needs) (λ c. search needs) returns (λ c. search needs) returns-2
-    (λ c. search needs) returns-3)
+    (λ c. search needs) (λ c. search needs) (λ c. search needs) (λ c. search needs) returns (λ c. search needs) (λ c. search never-short)
+    (λ c. search needs) (λ c. search never-refused))

@@ -11,7 +11,6 @@ expect-requires c κs =
 
 pub run-back-spec : {M : Type 1} → statement M
 run-back-spec =
-    tie.close
-    (tie.spec
+    tie.close (tie.spec
     (λ c. search needs) (λ c. search needs) (λ c. search needs) (λ c κs. example-composed) (λ c. search needs) expect-requires
     (λ c. search needs))

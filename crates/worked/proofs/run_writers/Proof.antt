@@ -3,7 +3,7 @@ use mathlib.Core.Path.{ap}
 use lib.ListN.{replicate, getD}
 use borrow.Author.Tests.{eq-eqb}
 use Rattle.model.specs.Sets.{Bytes}
-use Rattle.worked.specs.Last.{typedAs, joinedFrom, linkedText}
+use Rattle.worked.specs.Last.{tiffType, joinedFrom, linkedText}
 use Rattle.worked.proofs.WorkedList.{led-end}
 use Rattle.worked.proofs.MoreLists.{wrote-output}
 use borrow.Author.Needs.{needs}
@@ -19,7 +19,7 @@ expect-requires-2 : tie.Need-expect-requires-2
 expect-requires-2 c κs =
     let at-typed = c .before .before .before in
     eq-eqb _ 102 (ap (λ (o : Bytes). getD o 9 0)
-    (wrote-output (at-typed .typed .result) typedAs _ (replicate 10 0) (omega arith) (at-typed .typed .ensures)))
+    (wrote-output (at-typed .typed .result) tiffType _ (replicate 10 0) (omega arith) (at-typed .typed .ensures)))
 
 expect-requires-3 : tie.Need-expect-requires-3
 expect-requires-3 c κs =
@@ -35,8 +35,7 @@ expect-requires-4 c κs =
 
 pub run-writers-spec : {M : Type 1} → statement M
 run-writers-spec =
-    tie.close
-    (tie.spec
+    tie.close (tie.spec
     (λ c. search needs) (λ c. search needs) (λ c κs. search needs) (λ c. search needs) expect-requires (λ c. search needs)
     (λ c κs. search needs) (λ c. search needs) expect-requires-2 (λ c. search needs) (λ c. search needs) (λ c κs. search needs)
     (λ c. search needs) expect-requires-3 (λ c. search needs) (λ c κs. search needs) (λ c. search needs) expect-requires-4

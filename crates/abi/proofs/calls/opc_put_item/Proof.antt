@@ -3,9 +3,7 @@ use borrow.Author.Needs.{needs}
 use Rattle.abi.proofs.calls.opc_put_item.Statement.{statement}
 use Rattle.abi.proofs.calls.opc_put_item.Tie as tie
 
-returns : tie.Need-returns
-returns c = replied _ _ _ _ _ _ (c .before .before .before .put-item .ensures) (c .of-did .ensures)
-
 pub opc-put-item-spec : {M : Type 1} → statement M
-opc-put-item-spec = tie.close (tie.spec
-    (λ c κs. search needs) (λ c κs. search needs) (λ c. search needs) returns)
+opc-put-item-spec =
+    tie.close (tie.spec
+    (λ c κs. search needs) (λ c κs. search needs) (λ c. search needs) (λ c. search replied))

@@ -3,9 +3,7 @@ use borrow.Author.Needs.{needs}
 use Rattle.abi.proofs.calls.opc_start.Statement.{statement}
 use Rattle.abi.proofs.calls.opc_start.Tie as tie
 
-returns : tie.Need-returns
-returns c = replied _ _ _ _ _ _ (c .before .before .before .start .ensures) (c .of-did .ensures)
-
 pub opc-start-spec : {M : Type 1} → statement M
-opc-start-spec = tie.close (tie.spec
-    (λ c κs. search needs) (λ c κs. search needs) (λ c. search needs) returns)
+opc-start-spec =
+    tie.close (tie.spec
+    (λ c κs. search needs) (λ c κs. search needs) (λ c. search needs) (λ c. search replied))

@@ -3,9 +3,7 @@ use borrow.Author.Needs.{needs}
 use Rattle.abi.proofs.fields.opc_drop_default.Statement.{statement}
 use Rattle.abi.proofs.fields.opc_drop_default.Tie as tie
 
-returns : tie.Need-returns
-returns c = replied _ _ _ _ _ _ (c .before .before .before .drop-default .ensures) (c .of-did .ensures)
-
 pub opc-drop-default-spec : {M : Type 1} → statement M
-opc-drop-default-spec = tie.close (tie.spec
-    (λ c κs. search needs) (λ c κs. search needs) (λ c. search needs) returns)
+opc-drop-default-spec =
+    tie.close (tie.spec
+    (λ c κs. search needs) (λ c κs. search needs) (λ c. search needs) (λ c. search replied))

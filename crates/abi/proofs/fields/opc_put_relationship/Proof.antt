@@ -3,9 +3,7 @@ use borrow.Author.Needs.{needs}
 use Rattle.abi.proofs.fields.opc_put_relationship.Statement.{statement}
 use Rattle.abi.proofs.fields.opc_put_relationship.Tie as tie
 
-returns : tie.Need-returns
-returns c = replied _ _ _ _ _ _ (c .before .before .before .put-relationship .ensures) (c .of-did .ensures)
-
 pub opc-put-relationship-spec : {M : Type 1} → statement M
-opc-put-relationship-spec = tie.close (tie.spec
-    (λ c κs. search needs) (λ c κs. search needs) (λ c. search needs) returns)
+opc-put-relationship-spec =
+    tie.close (tie.spec
+    (λ c κs. search needs) (λ c κs. search needs) (λ c. search needs) (λ c. search replied))

@@ -4,7 +4,7 @@ use Rattle.abi.proofs.fields.opc_resolve_relationship.Statement.{statem
 use Rattle.abi.proofs.fields.opc_resolve_relationship.Tie as tie
 
 returns : tie.Need-returns
-returns c = replied _ _ _ _ _ _ (c .before .before .before .resolve-relationship .ensures) (c .of-resolution .ensures _)
+returns c = replied (c .before .before .before .resolve-relationship .ensures) (c .of-resolution .ensures _)
 
 pub opc-resolve-relationship-spec : {M : Type 1} → statement M
 opc-resolve-relationship-spec =

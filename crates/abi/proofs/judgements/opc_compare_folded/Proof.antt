@@ -15,6 +15,5 @@ returns-3 c = sym (ap orderNumber (sym (c .before .before .compare-folded .ensur
 
 pub opc-compare-folded-spec : {M : Type 1} → statement M
 opc-compare-folded-spec =
-    tie.close
-    (tie.spec
+    tie.close (tie.spec
     (λ c κs. search needs) (λ c. search needs) (λ c. search needs) (λ c. search needs) returns returns-2 returns-3)

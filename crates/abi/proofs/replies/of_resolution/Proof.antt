@@ -27,7 +27,6 @@ returns-4 c =
 
 pub of-resolution-spec : {M : Type 1} → statement M
 of-resolution-spec =
-    tie.close
-    (tie.spec
+    tie.close (tie.spec
     (λ c. search needs) (λ c κs. search needs) (λ c κs. search needs) (λ c. search needs) (λ c κs. search needs) (λ c. search needs)
     (λ c κs. search needs) (λ c. search needs) (λ c κs. search needs) returns returns-2 returns-3 returns-4)

@@ -16,6 +16,5 @@ returns-2 c =
 
 pub of-totalled-spec : {M : Type 1} → statement M
 of-totalled-spec =
-    tie.close
-    (tie.spec
+    tie.close (tie.spec
     (λ c. search needs) (λ c κs. search needs) (λ c. search needs) (λ c κs. search needs) returns returns-2)

@@ -19,21 +19,21 @@ add-written : tie.Need-add-written Inv-loop μ-loop
 add-written c =
     let at-turn = c .before .before .before .before .before in
     let at-loop = at-turn .before .before .before .before .before in
-    omega (arith, going-fits _ _ _ _ _ _ _ _ (at-loop .loop .inv .0) _ _ _ _ (at-turn .take-turn .ensures))
+    omega (arith, going-fits (at-loop .loop .inv .0) (at-turn .take-turn .ensures))
 
 returns : tie.Need-returns Inv-loop μ-loop
 returns c =
     let at-turn = c .before .before .before .before .before .before .before .before in
     let in-loop = at-turn .before .before .before .before in
-    run-as _ _ _ _ _ _ _ _ _ (c .three .ensures)
-    (going-stops _ _ _ _ _ _ _ _ (in-loop .before .loop .inv .0) _ _ _ _ (at-turn .take-turn .ensures) (in-loop .loop-test .taken)
+    run-as (c .three .ensures)
+    (going-stops (in-loop .before .loop .inv .0) (at-turn .take-turn .ensures) (in-loop .loop-test .taken)
     (c .before .if1 .taken))
 
 add-read : tie.Need-add-read Inv-loop μ-loop
 add-read c =
     let at-turn = c .before .before .before .before .before .before .before .before in
     let in-loop = at-turn .before .before .before .before in
-    omega (arith, going-on _ _ _ _ _ _ _ _ (in-loop .before .loop .inv .0) _ _ _ _ (at-turn .take-turn .ensures) (c .before .if1 .left) .0,
+    omega (arith, going-on (in-loop .before .loop .inv .0) (at-turn .take-turn .ensures) (c .before .if1 .left) .0,
     in-loop .loop-test .taken)
 
 add-made : tie.Need-add-made Inv-loop μ-loop
@@ -41,30 +41,17 @@ add-made c =
     let in-loop = c .before .before .before .before .before .before .before .before .before .before .before .before in
     omega (arith, in-loop .before .loop .inv .0 .few, in-loop .loop-test .taken)
 
-loop-less : tie.Need-loop-less Inv-loop μ-loop
-loop-less c =
-    let at-turn = c .before .before .before .before .before .before .before .before in
-    let in-loop = at-turn .before .before .before .before in
-    omega (arith, going-on _ _ _ _ _ _ _ _ (in-loop .before .loop .inv .0) _ _ _ _ (at-turn .take-turn .ensures) (c .before .if1 .left) .0,
-    in-loop .loop-test .taken, c .before .if1 .left)
-
 loop-again : tie.Need-loop-again Inv-loop μ-loop
 loop-again c =
     let at-turn = c .before .before .before .before .before .before .before .before in
     let at-loop = at-turn .before .before .before .before .before in
-    (going-on _ _ _ _ _ _ _ _ (at-loop .loop .inv .0) _ _ _ _ (at-turn .take-turn .ensures) (c .before .if1 .left) .1,
+    (going-on (at-loop .loop .inv .0) (at-turn .take-turn .ensures) (c .before .if1 .left) .1,
     at-turn .take-turn .kept .0 ∙ at-loop .loop .inv .1)
-
-returns-2 : tie.Need-returns-2 Inv-loop μ-loop
-returns-2 c =
-    run-as _ _ _ _ _ _ _ _ _ (c .three2 .ensures)
-    (going-ended _ _ _ _ _ _ _ _ (c .before .before .loop .inv .0) (c .before .loop-test .left))
 
 pub opc-run-spec : {M : Type 1} → statement M
 opc-run-spec =
-    tie.close
-    (tie.spec
+    tie.close (tie.spec
     Inv-loop μ-loop (λ c. (going-begins _ _ _, refl)) (λ c. search needs) (λ c. search needs) (λ c. search needs) (λ c. search needs)
     (λ c. search needs) (λ c. search needs) (λ c κs. search needs) add-written (λ c κs. search needs) (λ c. search needs)
-    (λ c. search needs) returns add-read add-made loop-less loop-again (λ c κs. search needs) (λ c. search needs) (λ c. search needs)
-    returns-2)
+    (λ c. search needs) returns add-read add-made (λ c. search (going-on, needs)) loop-again (λ c κs. search needs) (λ c. search needs)
+    (λ c. search needs) (λ c. search (going-ended, run-as)))

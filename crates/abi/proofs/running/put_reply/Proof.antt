@@ -15,6 +15,7 @@ returns c =
     (at-put84 .put84 .ensures) (at-put85 .put85 .ensures)
 
 pub put-reply-spec : {M : Type 1} → statement M
-put-reply-spec = tie.close (tie.spec
+put-reply-spec =
+    tie.close (tie.spec
     (λ c κs. search needs) (λ c κs. search needs) (λ c κs. search needs) (λ c κs. search needs) (λ c κs. search needs) (λ c. search needs)
     returns)

@@ -3,20 +3,17 @@ use mathlib.Core.Path.{_≡_, refl}
 use native.Mathlib.Omega.{arith}
 use lib.ListN.{length}
 use Rattle.store.specs.Layout.{slotCount}
-use Rattle.commands.specs.Listings.{Listing}
-use Rattle.commands.proofs.ListedParts.{listing-begin, listing-more, listed-end}
+use Rattle.commands.specs.Listings.{GroupsSent}
+use Rattle.commands.proofs.ListedParts.{groups-begin, groups-more, groups-end}
 use borrow.Author.Needs.{needs}
 use Rattle.commands.proofs.listing.put_listing.Statement.{statement}
 use Rattle.commands.proofs.listing.put_listing.Tie as tie
 
 abbrev Inv-loop : tie.InvT-loop
-Inv-loop pkg out₀ n row₀ at₀ out row at = (length out ≡ length out₀) × Listing pkg n row out₀ at out
+Inv-loop pkg out₀ n row₀ at₀ out row at = (length out ≡ length out₀) × GroupsSent pkg n row out₀ at out
 
 abbrev μ-loop : tie.MeasureT-loop
 μ-loop pkg out₀ n row₀ at₀ out row at = n - row
-
-item-count-requires : tie.Need-item-count-requires Inv-loop μ-loop
-item-count-requires c κs = c .before .before .pre
 
 own-end-requires : tie.Need-own-end-requires Inv-loop μ-loop
 own-end-requires c κs =
@@ -44,27 +41,8 @@ loop-less c =
     let at-loop-test = at-own-end .before in
     omega (arith, at-own-end .own-end .ensures .low, at-loop-test .loop-test .taken)
 
-loop-again : tie.Need-loop-again Inv-loop μ-loop
-loop-again c =
-    let at-put-group = c .before .before in
-    let at-own-end = at-put-group .before .before in
-    let at-loop-test = at-own-end .before in
-    let at-loop = at-loop-test .before in
-    let inv = at-loop .loop .inv in
-    (omega (arith, inv .0), listing-more _ _ _ _ _ _ (inv .1) (inv .0) (at-loop-test .loop-test .taken) _ (λ _ _. refl) _
-    (at-own-end .own-end .ensures) _ _ (at-put-group .put-group .ensures))
-
-returns : tie.Need-returns Inv-loop μ-loop
-returns c =
-    let at-loop = c .before in
-    let at-item-count = at-loop .before in
-    let at-pre = at-item-count .before .before .before in
-    let count = at-item-count .item-count .ensures in
-    listed-end _ _ _ _ _ _ (at-loop .loop .inv .1) (c .loop-test .left) (omega (arith, count .low, at-pre .pre .few)) count
-
 pub put-listing-spec : {M : Type 1} → statement M
 put-listing-spec =
-    tie.close
-    (tie.spec
-    Inv-loop μ-loop item-count-requires (λ c. (refl, listing-begin _ _ _)) own-end-requires put-group-requires loop-less loop-again
-    (λ c. search needs) returns)
+    tie.close (tie.spec
+    Inv-loop μ-loop (λ c κs. c .before .before .pre) (λ c. (refl, groups-begin _ _ _)) own-end-requires put-group-requires loop-less
+    (λ c. search (groups-more, needs)) (λ c. search needs) (λ c. search groups-end))

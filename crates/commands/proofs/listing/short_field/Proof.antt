@@ -6,11 +6,8 @@ use Rattle.commands.proofs.listing.short_field.Tie as tie
 returns : tie.Need-returns
 returns c = field-long _ _ _ _ _ (c .before .before .field .ensures .2) (c .before .if1 .taken)
 
-returns-2 : tie.Need-returns-2
-returns-2 c = field-short _ _ _ _ _ (c .before .field .ensures .2) (c .if1 .left)
-
 pub short-field-spec : {M : Type 1} → statement M
 short-field-spec =
-    tie.close
-    (tie.spec
-    (λ c κs. search needs) (λ c. search needs) (λ c. search needs) (λ c. search needs) returns returns-2)
+    tie.close (tie.spec
+    (λ c κs. search needs) (λ c. search needs) (λ c. search needs) (λ c. search needs) returns
+    (λ c. field-short _ _ _ _ _ (c .before .field .ensures .2) (c .if1 .left)))

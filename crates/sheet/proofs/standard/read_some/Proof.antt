@@ -10,7 +10,6 @@ returns c =
 
 pub read-some-spec : {M : Type 1} → statement M
 read-some-spec =
-    tie.close
-    (tie.spec
+    tie.close (tie.spec
     (λ c κs. search needs) (λ c. search needs) (λ c κs. search needs) (λ c κs. search needs) (λ c κs. search needs) (λ c. search needs)
     returns)

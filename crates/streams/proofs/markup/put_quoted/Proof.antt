@@ -23,11 +23,6 @@ loop-holds : tie.Need-loop-holds Inv-loop μ-loop
 unfolding quoted flatMap
 loop-holds c = (omega arith, c .find .ensures, refl, sent-none _ _)
 
-sub-put-stretch : tie.Need-sub-put-stretch Inv-loop μ-loop
-sub-put-stretch c =
-    let w = c .before .before .loop in
-    next-from _ (w .i) (w .k) (w .inv .1) (w .inv .0)
-
 put-stretch-requires : tie.Need-put-stretch-requires Inv-loop μ-loop
 put-stretch-requires c κs =
     let at-loop-test = c .before .before in
@@ -36,29 +31,6 @@ put-stretch-requires c κs =
     let w = at-loop .loop in
     (omega (arith, taken-near _ _ (now (at-args .args .s)) (w .i) _ _ (w .inv .3), at-args .pre .0, at-args .pre .1), omega
     (arith, stretch-length (now (at-args .args .s)) (w .i) (w .k) (w .inv .1) (w .inv .0), at-args .pre .1, at-loop-test .loop-test .taken))
-
-loop-less : tie.Need-loop-less Inv-loop μ-loop
-loop-less c =
-    let at-loop-test = c .before .before .before .before .before .before in
-    let at-loop = at-loop-test .before in
-    let at-args = at-loop .before .before .before .before in
-    let w = at-loop .loop in
-    omega (arith, w .inv .0, next-from (now (at-args .args .s)) (w .i) (w .k) (w .inv .1) (w .inv .0), at-loop-test .loop-test .taken)
-
-loop-again : tie.Need-loop-again Inv-loop μ-loop
-loop-again c =
-    let at-put-stretch = c .before .before .before in
-    let at-loop-test = at-put-stretch .before .before .before in
-    let at-loop = at-loop-test .before in
-    let at-args = at-loop .before .before .before .before in
-    let w = at-loop .loop in
-    let x = at-put-stretch .put-stretch in
-    (omega (arith, at-loop-test .loop-test .taken), c .find2 .ensures, omega (arith, x .kept .0, w .inv .2), sent-stretch
-    (now (at-args .args .s)) (w .i) (w .k) (w .inv .1) (w .inv .0) (at-loop-test .loop-test .taken) _ _ _ _ _ _ (w .inv .2) (w .inv .3)
-    (x .ensures))
-
-sub-emit : tie.Need-sub-emit Inv-loop μ-loop
-sub-emit c = c .before .before .loop .inv .0
 
 emit-requires : tie.Need-emit-requires Inv-loop μ-loop
 emit-requires c κs =
@@ -80,8 +52,7 @@ returns c =
 
 pub put-quoted-spec : {M : Type 1} → statement M
 put-quoted-spec =
-    tie.close
-    (tie.spec
-    Inv-loop μ-loop (λ c κs. search needs) loop-holds sub-put-stretch (λ c. search needs) (λ c. search needs) put-stretch-requires
-    (λ c. search needs) (λ c κs. search needs) loop-less loop-again sub-emit (λ c. search needs) (λ c. search needs) emit-requires
-    (λ c. search needs) returns)
+    tie.close (tie.spec
+    Inv-loop μ-loop (λ c κs. search needs) loop-holds (λ c. search next-from) (λ c. search needs) (λ c. search needs) put-stretch-requires
+    (λ c. search needs) (λ c κs. search needs) (λ c. search (next-from, needs)) (λ c. search (sent-stretch, needs))
+    (λ c. c .before .before .loop .inv .0) (λ c. search needs) (λ c. search needs) emit-requires (λ c. search needs) returns)
