@@ -15,7 +15,7 @@ use Rattle.model.specs.Package.{State, empty}
 use Rattle.model.specs.Calls.{Call, Start, startRefusal, step, answers, after}
 use Rattle.contract.specs.Holds.{Holds}
 use Rattle.contract.specs.Ran.{Ran}
-use Rattle.contract.proofs.Rans.{changed-made}
+use Rattle.model.proofs.Refusals.{changed-done}
 use Rattle.script.specs.Calls.{sizeOf, isCall, callIn}
 use Rattle.script.proofs.CallTests.{call-inside}
 use Rattle.abi.specs.declared.replies.Reply.{Reply}
@@ -116,7 +116,7 @@ module _ (room : ℕ) where
   start-from : (C : ℕ) (p q : Bytes) (a : Answer) → room ≡ length p → startRefusal room C ≡ 0 → Ran (Start C) p a q → (a ≡ step room (empty C) (Start C) .0) × Holds q (step room (empty C) (Start C) .1)
   start-from C p q a e z ran =
       let b = ran .begun .0 (ap (λ (n : ℕ). startRefusal n C) (sym e) ∙ z) in
-      subst (λ (x : Answer × State). (a ≡ x .0) × Holds q (x .1)) (sym (changed-made (startRefusal room C) (empty C) (empty C) z)) b
+      subst (λ (x : Answer × State). (a ≡ x .0) × Holds q (x .1)) (sym (changed-done (startRefusal room C) (empty C) (empty C) z)) b
 
   by-start : {s p out q out′ : Bytes} {w k m : ℕ} → Scripted s p out q out′ w k m → (C : ℕ) (cs : List Call) → room ≡ length p → startRefusal room C ≡ 0 → (f : ℕ) → length s ≤ f
       → callsIn (entriesTo f s out) ≡ Start C ∷ cs → ByLedger room (empty C) (entriesTo f s out) out q out′ w k m

@@ -7,7 +7,7 @@ use mathlib.Core.List.{List, []}
 use native.Mathlib.Omega.{arith}
 use lib.Dec.{ltb, eqb}
 use lib.ListN.{length}
-use borrow.Author.Tests.{eq-eqb, ne-eqb, eqb-true, eqb-false, not-true, not-false}
+use borrow.Author.Tests.{ne-eqb, eqb-true, eqb-false, not-true, not-false}
 use Rattle.output.specs.Answers.{Answer, unanswered, filled}
 use Rattle.output.proofs.Answering.{refusing-is}
 use Rattle.model.specs.Fields.{when}
@@ -21,6 +21,7 @@ use Rattle.contract.specs.Holds.{Lies, Holds}
 use Rattle.contract.specs.Answers.{ofDid}
 use Rattle.contract.specs.declared.answers.Did.the-variants.{Refused}
 use Rattle.contract.specs.Ran.{Ran, noPackage, starts}
+use Rattle.model.proofs.Refusals.{changed-done}
 
 -- what holds an abstract package passes the test
 pub is-package : (b : List ℕ) (S : State) → Holds b S → isPackage b ≡ true
@@ -78,13 +79,10 @@ module _ (p : List ℕ) (t : isPackage p ≡ true) where
 pub changed-refused : (n : ℕ) (S T : State) → (n ≡ 0 → ⊥) → changed n S T ≡ (refused n, S)
 changed-refused n S T h = rw (ne-eqb n 0 h)
 
-pub changed-made : (n : ℕ) (S T : State) → n ≡ 0 → changed n S T ≡ (done, T)
-changed-made n S T h = rw (eq-eqb n 0 h)
-
 -- a start
 pub started : (C : ℕ) (p q : List ℕ) → startRefusal (length p) C ≡ 0 → length q ≡ length p → Holds q (empty C) → Ran (Start C) p done q
 started C p q e l h = record {
-  ledger = λ S _. subst (λ (x : Answer × State). (done ≡ x .0) × Holds q (x .1)) (sym (changed-made (startRefusal (length p) C) S (empty C) e)) (refl, h);
+  ledger = λ S _. subst (λ (x : Answer × State). (done ≡ x .0) × Holds q (x .1)) (sym (changed-done (startRefusal (length p) C) S (empty C) e)) (refl, h);
   kept = λ r. absurd (r refl);
   foreign = λ s _. absurd (true≢false s);
   numbered = λ s _. absurd (true≢false s);
@@ -135,7 +133,7 @@ module _ (p : List ℕ) (x : Bool) (ex : x ≡ isPackage p) where
   opened-shape h = package-shape p (opened h)
 
 -- A CALL ANSWERS: its number is one of document 01's, whatever the bytes
-start-small : (room C : ℕ) → startRefusal room C ≤ 2
+pub start-small : (room C : ℕ) → startRefusal room C ≤ 2
 unfolding startRefusal
 start-small room C = go (ltb capacityLimit C || ltb room (C + overhead))
   where

@@ -24,7 +24,8 @@ use Rattle.contract.specs.Entries.{rowCount, keyTaken, noRowRoom, Became
 use Rattle.contract.proofs.RowKeys.{item-row-set, default-row-set, default-row-key, override-row-set, override-row-key, relationship-row-set, relationship-row-key}
 use Rattle.contract.proofs.RowOrders.{each-append, each-of, items-below, defaults-above, holds-ordered}
 use Rattle.contract.proofs.RowCharges.{used-charge, count-rows, length-others}
-use Rattle.contract.proofs.Rans.{changed-refused, changed-made}
+use Rattle.contract.proofs.Rans.{changed-refused}
+use Rattle.model.proofs.Refusals.{changed-done}
 use Rattle.contract.proofs.SetRows.{rowFor, set-lookup, set-remove, set-insert, set-count}
 
 -- the entries xs of S as the rows of the set n, and `put`, which puts others in their place
@@ -138,7 +139,7 @@ module _ {E : Type 0} (key : E → Key) (row : E → Row) (n : ℕ) (S : State) 
   made-step : (c : Change) (a : Answer) (q : List ℕ) (ys : List E) → a ≡ done → changeRefusal S c ≡ 0 → changeMade S c ≡ put ys → Lies q (put ys) → (a ≡ change S c .0) × Lies q (change S c .1)
   unfolding change
   made-step c a q ys ea ek em l =
-      let e : changed (changeRefusal S c) S (changeMade S c) ≡ (done, changeMade S c) = changed-made (changeRefusal S c) S (changeMade S c) ek in
+      let e : changed (changeRefusal S c) S (changeMade S c) ≡ (done, changeMade S c) = changed-done (changeRefusal S c) S (changeMade S c) ek in
       rw e (ea, subst (λ (T : State). Lies q T) (sym em) l)
 
   -- a drop by the key k

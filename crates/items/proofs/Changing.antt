@@ -20,7 +20,7 @@ use Rattle.model.specs.Calls.{Changes, PutItem, DropItem, done, refused, change
 use Rattle.model.proofs.Numbers.{numbered}
 use Rattle.model.proofs.Rows.{rows-insert, rows-remove}
 use Rattle.model.proofs.ItemNames.{accepted-prefix}
-use Rattle.model.proofs.Refusals.{all-none, unmet}
+use Rattle.model.proofs.Refusals.{all-none, unmet, changed-done}
 use Rattle.model.proofs.Sets.{absent}
 use Rattle.model.proofs.Places.{bound-place}
 use Rattle.store.specs.Layout.{countOf}
@@ -33,7 +33,7 @@ use Rattle.contract.specs.Holds.{Lies, Holds}
 use Rattle.contract.specs.Ran.{Ran}
 use Rattle.contract.specs.Searches.{Bounded}
 use Rattle.contract.proofs.RowKeys.{tag-small}
-use Rattle.contract.proofs.Rans.{field-refused, changes-foreign, change-refused, change-made, changed-refused, changed-made, closed, opened}
+use Rattle.contract.proofs.Rans.{field-refused, changes-foreign, change-refused, change-made, changed-refused, closed, opened}
 use Rattle.items.specs.Wants.{wanted, Located}
 use Rattle.items.specs.Clashes.{Cleared}
 use Rattle.items.specs.declared.wanted.Wanted.{Wanted}
@@ -61,7 +61,7 @@ drop-no S s k e z = ap (λ (n : ℕ). changed n S (withItems S (remove keyOfItem
 
 drop-yes : (S : State) (s : Bytes) → dropItemRefusal S s ≡ 0 → change S (DropItem s) ≡ (done, withItems S (remove keyOfItem (itemKey s) (S .items)))
 unfolding change
-drop-yes S s e = changed-made (dropItemRefusal S s) S (withItems S (remove keyOfItem (itemKey s) (S .items))) e
+drop-yes S s e = changed-done (dropItemRefusal S s) S (withItems S (remove keyOfItem (itemKey s) (S .items))) e
 
 -- the rows without the item's
 removed-rows : (S : State) (s : Bytes) (r : ℕ) → r ≡ spot keyOfItem (itemKey s) (S .items) → r < length (S .items) → removeAt r (rowsFor S) ≡ rowsFor (withItems S (remove keyOfItem (itemKey s) (S .items)))
@@ -81,7 +81,7 @@ put-no S s bytes k e z =
 
 put-yes : (S : State) (s bytes : Bytes) → putItemRefusal S s bytes ≡ 0 → change S (PutItem s bytes) ≡ (done, withItems S (insert keyOfItem (record { name = s; bytes = bytes }) (S .items)))
 unfolding change
-put-yes S s bytes e = changed-made (putItemRefusal S s bytes) S (withItems S (insert keyOfItem (record { name = s; bytes = bytes }) (S .items))) e
+put-yes S s bytes e = changed-done (putItemRefusal S s bytes) S (withItems S (insert keyOfItem (record { name = s; bytes = bytes }) (S .items))) e
 
 put-named : (S : State) (s bytes : Bytes) (k : ℕ) → itemField s ≡ k → (k ≡ 0 → ⊥) → putItemRefusal S s bytes ≡ k
 unfolding putItemRefusal first

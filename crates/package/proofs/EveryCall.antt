@@ -1,29 +1,20 @@
 -- Demand 1, and the test of a buffer.
 -- Assumes nothing.
-use Prim.Native.Nat.{ℕ, _+_, _≤_}
+use Prim.Native.Nat.{ℕ, _≤_}
 use mathlib.Core.Path.{_≡_, refl, ap, sym, subst}
-use mathlib.Core.Bool.{Bool, true, false, _||_, cond, false≢true}
+use mathlib.Core.Bool.{Bool, true, false, false≢true}
 use mathlib.Core.List.{List}
 use native.Mathlib.Omega.{arith}
-use lib.Dec.{ltb, eqb}
+use lib.Dec.{eqb}
 use lib.ListN.{length}
 use borrow.Author.Tests.{eqb-true, eqb-false}
 use Rattle.output.specs.Answers.{Answer}
-use Rattle.model.specs.Calls.{Call, Find, View, Totals, Start, Looks, Changes, Prints, capacityLimit, overhead, startRefusal}
+use Rattle.model.specs.Calls.{Call, Find, View, Totals, Start, Looks, Changes, Prints, startRefusal}
 use Rattle.store.specs.Packages.{isPackage}
 use Rattle.store.proofs.PackageTest.{package-short, package-zeros}
 use Rattle.contract.specs.Ran.{Ran, noPackage, starts}
-use Rattle.contract.proofs.Rans.{is-package}
+use Rattle.contract.proofs.Rans.{is-package, start-small}
 use Rattle.package.specs.Demand.{EveryCall, EveryTest}
-
--- a start is refused by 2 alone
-start-few : (n C : ℕ) → startRefusal n C ≤ 2
-unfolding startRefusal
-start-few n C = go (ltb capacityLimit C || ltb n (C + overhead))
-  where
-    go : (b : Bool) → cond b 2 0 ≤ 2
-    go true = omega arith
-    go false = omega arith
 
 no-package-few : (c : Call) → noPackage c .number ≤ 16
 no-package-few (Start C) = omega arith
@@ -42,7 +33,7 @@ few (Start C) p q a r true t e f = go (eqb (startRefusal (length p) C) 0) refl
     go true h = let z = ap (λ (y : Answer). y .number) (r .begun .0 (eqb-true (startRefusal (length p) C) 0 h) .0) in omega arith
     go false h =
         let z = ap (λ (y : Answer). y .number) (r .begun .1 (eqb-false (startRefusal (length p) C) 0 h)) in
-        omega (arith, start-few (length p) C)
+        omega (arith, start-small (length p) C)
 few (Looks l) p q a r true t e f = absurd (false≢true e)
 few (Changes d) p q a r true t e f = absurd (false≢true e)
 few (Prints w out) p q a r true t e f = absurd (false≢true e)
