@@ -5,28 +5,14 @@
 mod support;
 
 use std::cell::RefCell;
-use zombirels::package::{Package, CAPACITY_MAX, OVERHEAD};
+use support::package::{asked, buffer, tile};
+use zombirels::package::{Package, CAPACITY_MAX};
 use zombirels::script::{Run, Script};
 
 const CALLS: usize = 1000;
 const ITEMS: usize = 200;
 /// How often the thousand are made in a round.
 const PASSES: usize = 20;
-
-/// The name of a tile; neighbours in number are no neighbours in order.
-fn tile(i: usize) -> Vec<u8> {
-    let (row, column, level) = (i * 7 % 40, i * 13 % 64, i % 5);
-    format!("/slides/2026/ovary-17/tiles/L{level}/r{row:03}c{column:03}-{i}.tiff").into_bytes()
-}
-
-/// The same name as a count sheet may spell it.
-fn asked(i: usize) -> Vec<u8> {
-    let mut name = tile(i % ITEMS);
-    if i % 2 == 0 {
-        name.make_ascii_uppercase();
-    }
-    name
-}
 
 fn build(add: impl Fn(&mut Script, &[u8]), names: &[Vec<u8>]) -> Script {
     let mut script = Script::new();
@@ -50,13 +36,13 @@ fn compare(
     one: impl Fn(&Package, &[u8]) -> usize,
     add: impl Fn(&mut Script, &[u8]) + Copy,
 ) {
-    let mut buffer = vec![0; CAPACITY_MAX as usize + OVERHEAD];
+    let mut buffer = buffer();
     let mut package = Package::start(&mut buffer, CAPACITY_MAX).expect("room");
     for i in 0..ITEMS {
         package.put_item(&tile(i), &vec![7; bytes]).expect("room");
     }
     let package = RefCell::new(package);
-    let names: Vec<Vec<u8>> = (0..CALLS).map(asked).collect();
+    let names: Vec<Vec<u8>> = (0..CALLS).map(|i| asked(i % ITEMS)).collect();
     let script = build(add, &names);
     let mut outs = [(); 3].map(|()| vec![0; script.output_len()]);
     let [first, second, third] = &mut outs;

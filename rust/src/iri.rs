@@ -6,6 +6,7 @@
 //! many bytes are needed, and nothing is written.
 
 use crate::ffi;
+use crate::lent::{ask, write, write_two};
 use crate::Refusal;
 
 /// Whether `text` is an IRI, with a scheme or without: segment characters,
@@ -18,15 +19,13 @@ use crate::Refusal;
 /// ```
 #[must_use]
 pub fn is_iri(text: &[u8]) -> bool {
-    // SAFETY: pointer and length come from one slice.
-    unsafe { ffi::opc_is_iri(text.as_ptr(), text.len()) }
+    ask(ffi::opc_is_iri, text)
 }
 
 /// Whether `text` can name a package: an IRI with a scheme.
 #[must_use]
 pub fn is_package_iri(text: &[u8]) -> bool {
-    // SAFETY: pointer and length come from one slice.
-    unsafe { ffi::opc_is_package_iri(text.as_ptr(), text.len()) }
+    ask(ffi::opc_is_package_iri, text)
 }
 
 /// Resolves the reference of an external target against a package IRI, as
@@ -46,18 +45,9 @@ pub fn is_package_iri(text: &[u8]) -> bool {
 /// assert_eq!(&out[..length], b"http://www.example.com/b.xml");
 /// ```
 pub fn resolve_reference(base: &[u8], reference: &[u8], out: &mut [u8]) -> Result<usize, Refusal> {
-    // SAFETY: each pointer and its length come from one slice.
-    let reply = unsafe {
-        ffi::opc_resolve_reference(
-            base.as_ptr(),
-            base.len(),
-            reference.as_ptr(),
-            reference.len(),
-            out.as_mut_ptr(),
-            out.len(),
-        )
-    };
-    reply.values().map(|[length]| length)
+    write_two(ffi::opc_resolve_reference, base, reference, out)
+        .values()
+        .map(|[length]| length)
 }
 
 /// Resolves an internal target from a source, which is `/` for the package or
@@ -78,18 +68,9 @@ pub fn resolve_reference(base: &[u8], reference: &[u8], out: &mut [u8]) -> Resul
 /// assert_eq!(&out[..length], b"/g");
 /// ```
 pub fn resolve_target(source: &[u8], target: &[u8], out: &mut [u8]) -> Result<usize, Refusal> {
-    // SAFETY: each pointer and its length come from one slice.
-    let reply = unsafe {
-        ffi::opc_resolve_target(
-            source.as_ptr(),
-            source.len(),
-            target.as_ptr(),
-            target.len(),
-            out.as_mut_ptr(),
-            out.len(),
-        )
-    };
-    reply.values().map(|[length]| length)
+    write_two(ffi::opc_resolve_target, source, target, out)
+        .values()
+        .map(|[length]| length)
 }
 
 /// Composes the pack IRI of a part, or of the package if `name` is `/`. The
@@ -108,18 +89,9 @@ pub fn resolve_target(source: &[u8], target: &[u8], out: &mut [u8]) -> Result<us
 /// assert_eq!(&out[..length], b"pack://http%3A,,www.example.com,ex.opc/foo/b.xml");
 /// ```
 pub fn compose_pack_iri(package: &[u8], name: &[u8], out: &mut [u8]) -> Result<usize, Refusal> {
-    // SAFETY: each pointer and its length come from one slice.
-    let reply = unsafe {
-        ffi::opc_compose_pack_iri(
-            package.as_ptr(),
-            package.len(),
-            name.as_ptr(),
-            name.len(),
-            out.as_mut_ptr(),
-            out.len(),
-        )
-    };
-    reply.values().map(|[length]| length)
+    write_two(ffi::opc_compose_pack_iri, package, name, out)
+        .values()
+        .map(|[length]| length)
 }
 
 /// What [`resolve_pack_iri`] wrote: the package IRI, then the part name.
@@ -148,10 +120,7 @@ pub struct PackLengths {
 /// assert_eq!(&rest[..lengths.part], b"/t3.tiff");
 /// ```
 pub fn resolve_pack_iri(iri: &[u8], out: &mut [u8]) -> Result<PackLengths, Refusal> {
-    // SAFETY: each pointer and its length come from one slice.
-    let reply =
-        unsafe { ffi::opc_resolve_pack_iri(iri.as_ptr(), iri.len(), out.as_mut_ptr(), out.len()) };
-    let [package, part] = reply.values()?;
+    let [package, part] = write(ffi::opc_resolve_pack_iri, iri, out).values()?;
     Ok(PackLengths { package, part })
 }
 
@@ -170,11 +139,9 @@ pub fn resolve_pack_iri(iri: &[u8], out: &mut [u8]) -> Result<PackLengths, Refus
 /// assert_eq!(&out[..length], b"/foo/_rels/bar.xml.rels");
 /// ```
 pub fn relationships_part(source: &[u8], out: &mut [u8]) -> Result<usize, Refusal> {
-    // SAFETY: each pointer and its length come from one slice.
-    let reply = unsafe {
-        ffi::opc_relationships_part(source.as_ptr(), source.len(), out.as_mut_ptr(), out.len())
-    };
-    reply.values().map(|[length]| length)
+    write(ffi::opc_relationships_part, source, out)
+        .values()
+        .map(|[length]| length)
 }
 
 /// Writes the source whose Relationships part `name` is; `_rels` and `.rels`
@@ -192,14 +159,7 @@ pub fn relationships_part(source: &[u8], out: &mut [u8]) -> Result<usize, Refusa
 /// assert_eq!(&out[..length], b"/");
 /// ```
 pub fn source_of_relationships_part(name: &[u8], out: &mut [u8]) -> Result<usize, Refusal> {
-    // SAFETY: each pointer and its length come from one slice.
-    let reply = unsafe {
-        ffi::opc_source_of_relationships_part(
-            name.as_ptr(),
-            name.len(),
-            out.as_mut_ptr(),
-            out.len(),
-        )
-    };
-    reply.values().map(|[length]| length)
+    write(ffi::opc_source_of_relationships_part, name, out)
+        .values()
+        .map(|[length]| length)
 }

@@ -26,6 +26,7 @@
 
 mod ffi;
 pub mod iri;
+mod lent;
 pub mod names;
 pub mod package;
 mod refusal;

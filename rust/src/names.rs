@@ -6,6 +6,7 @@
 //! their *folding*, in which A to Z became a to z.
 
 use crate::ffi;
+use crate::lent::{ask, ask_two};
 use crate::Refusal;
 use std::cmp::Ordering;
 
@@ -18,8 +19,7 @@ use std::cmp::Ordering;
 /// ```
 #[must_use]
 pub fn is_part_name(name: &[u8]) -> bool {
-    // SAFETY: pointer and length come from one slice.
-    unsafe { ffi::opc_is_part_name(name.as_ptr(), name.len()) }
+    ask(ffi::opc_is_part_name, name)
 }
 
 /// Whether the part name `name` is reserved for Relationships parts: it ends
@@ -27,31 +27,27 @@ pub fn is_part_name(name: &[u8]) -> bool {
 /// other bytes than a part name the answer means nothing.
 #[must_use]
 pub fn is_reserved(name: &[u8]) -> bool {
-    // SAFETY: pointer and length come from one slice.
-    unsafe { ffi::opc_is_reserved(name.as_ptr(), name.len()) }
+    ask(ffi::opc_is_reserved, name)
 }
 
 /// Whether `a` and `b` are equal but for the case of ASCII letters.
 #[must_use]
 pub fn is_equivalent(a: &[u8], b: &[u8]) -> bool {
-    // SAFETY: each pointer and its length come from one slice.
-    unsafe { ffi::opc_is_equivalent(a.as_ptr(), a.len(), b.as_ptr(), b.len()) }
+    ask_two(ffi::opc_is_equivalent, a, b)
 }
 
 /// Whether `a` grows out of `b`: folded, it is `b`, then a slash, then more.
 /// No package holds both.
 #[must_use]
 pub fn is_derivable(a: &[u8], b: &[u8]) -> bool {
-    // SAFETY: each pointer and its length come from one slice.
-    unsafe { ffi::opc_is_derivable(a.as_ptr(), a.len(), b.as_ptr(), b.len()) }
+    ask_two(ffi::opc_is_derivable, a, b)
 }
 
 /// Compares the foldings byte by byte; a proper prefix comes first. This is
 /// the order in which a package lists its parts.
 #[must_use]
 pub fn compare_folded(a: &[u8], b: &[u8]) -> Ordering {
-    // SAFETY: each pointer and its length come from one slice.
-    match unsafe { ffi::opc_compare_folded(a.as_ptr(), a.len(), b.as_ptr(), b.len()) } {
+    match ask_two(ffi::opc_compare_folded, a, b) {
         0 => Ordering::Less,
         1 => Ordering::Equal,
         2 => Ordering::Greater,
@@ -69,8 +65,7 @@ pub fn compare_folded(a: &[u8], b: &[u8]) -> Ordering {
 /// ```
 #[must_use]
 pub fn extension(name: &[u8]) -> Option<&[u8]> {
-    // SAFETY: pointer and length come from one slice.
-    match unsafe { ffi::opc_extension_at(name.as_ptr(), name.len()) } {
+    match ask(ffi::opc_extension_at, name) {
         0 => None,
         start => Some(&name[start..]),
     }
@@ -110,9 +105,7 @@ pub struct ItemName<'a> {
 /// assert_eq!(take_apart(b"/t3/[01].piece"), Err(Refusal::BadSuffix));
 /// ```
 pub fn take_apart(name: &[u8]) -> Result<ItemName<'_>, Refusal> {
-    // SAFETY: pointer and length come from one slice.
-    let reply = unsafe { ffi::opc_take_apart(name.as_ptr(), name.len()) };
-    let [length, mark, number] = reply.values()?;
+    let [length, mark, number] = ask(ffi::opc_take_apart, name).values()?;
     assert!(mark <= 2, "the archive has three marks");
     let piece = (mark != 0).then_some(Piece {
         number: number as u16,
@@ -125,22 +118,19 @@ pub fn take_apart(name: &[u8]) -> Result<ItemName<'_>, Refusal> {
 /// Whether `text` is a media type: token/token, 3 to 127 bytes.
 #[must_use]
 pub fn is_media_type(text: &[u8]) -> bool {
-    // SAFETY: pointer and length come from one slice.
-    unsafe { ffi::opc_is_media_type(text.as_ptr(), text.len()) }
+    ask(ffi::opc_is_media_type, text)
 }
 
 /// Whether `text` is an extension that can get a default media type: 1 to 31
 /// bytes of segment characters without a dot.
 #[must_use]
 pub fn is_extension(text: &[u8]) -> bool {
-    // SAFETY: pointer and length come from one slice.
-    unsafe { ffi::opc_is_extension(text.as_ptr(), text.len()) }
+    ask(ffi::opc_is_extension, text)
 }
 
 /// Whether `text` is the id of a relationship: 1 to 63 bytes, a letter or
 /// `_`, then letters, digits, `.`, `_` and `-`.
 #[must_use]
 pub fn is_id(text: &[u8]) -> bool {
-    // SAFETY: pointer and length come from one slice.
-    unsafe { ffi::opc_is_id(text.as_ptr(), text.len()) }
+    ask(ffi::opc_is_id, text)
 }

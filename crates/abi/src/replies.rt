@@ -2,10 +2,10 @@
 use contract::answers::Did;
 use contract::answers::Found;
 use contract::answers::Totalled;
-use items::places::Span;
 use output::writing::Written;
 use pack::pack::Resolved;
 use relationships::resolving::Resolution;
+use store::rows::Span;
 ghost use mathlib.Core.Path.{_≡_};
 ghost use mathlib.Core.List.{List, [], _∷_};
 ghost use Prim.Native.Nat.{ℕ};

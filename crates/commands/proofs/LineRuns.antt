@@ -2,7 +2,6 @@
 -- Assumes nothing.
 use Prim.Native.Nat.{ℕ, _-_}
 use mathlib.Core.Path.{_≡_, refl, ap, sym, _∙_, subst}
-use mathlib.Core.Bool.{Bool, true, not, true≢false}
 use native.Mathlib.Omega.{arith}
 use lib.ListN.{length, take, drop}
 use Rattle.base.proofs.Lists.{take-rest}
@@ -12,13 +11,14 @@ use Rattle.output.proofs.Answering.{refusing-answered}
 use Rattle.model.specs.Sets.{Bytes}
 use Rattle.model.specs.Calls.{Change, Changes, refused}
 use Rattle.model.specs.Sheet.{Line, Does, Lists, Unreadable, lineRead, numberLine, shownBy}
-use Rattle.store.specs.Packages.{isPackage}
 use Rattle.contract.specs.Answers.{ofDid}
 use Rattle.contract.specs.declared.answers.Did.{Did}
 use Rattle.contract.specs.declared.answers.Did.the-variants.{Refused}
 use Rattle.contract.specs.Holds.{Holds}
 use Rattle.contract.specs.Ran.{Ran}
-use Rattle.contract.proofs.Rans.{is-package, closed, answered}
+use Rattle.contract.specs.Opening.{turnedNumber}
+use Rattle.contract.proofs.Opening.{never-turned}
+use Rattle.contract.proofs.Rans.{answered}
 use Rattle.lines.specs.Reading.{Parsed}
 use Rattle.lines.specs.declared.parsing.Command.{Command}
 use Rattle.lines.proofs.Sends.{answer-length}
@@ -39,11 +39,11 @@ numbered c p a q n r e = record {
 pub numbered-rest : (f : Bytes → Change) (l p : Bytes) (a : Answer) (q : Bytes) (n i : ℕ) → Ran (Changes (f (take (length l - i) (drop i l)))) p a q → ((a ≡ unanswered → ⊥) → n ≡ a .number) → Numbered (f (drop i l)) p n q
 numbered-rest f l p a q n i r e = numbered (f (drop i l)) p a q n (subst (λ (s : Bytes). Ran (Changes (f s)) p a q) (take-rest l i) r) e
 
--- A LISTING of what is no package is free
-pub listed-foreign : (p : Bytes) (z : Bool) → z ≡ isPackage p → not z ≡ true → (k : ℕ) (out : Bytes) (n : ℕ) (out' : Bytes) → Sent out 0 (numberLine k) n out' → Listed p out n out'
-listed-foreign p z e t k out n out' s = record {
+-- A LISTING of bytes that are turned away is free
+pub listed-foreign : (p : Bytes) (k : ℕ) → k ≡ turnedNumber p → (k ≡ 0 → ⊥) → (out : Bytes) (n : ℕ) (out' : Bytes) → Sent out 0 (numberLine k) n out' → Listed p out n out'
+listed-foreign p k e z out n out' s = record {
   few = omega (arith, s .next-is, answer-length k);
-  is = λ S h. absurd (true≢false (sym (is-package p S h) ∙ closed p z e t));
+  is = λ S h. never-turned p S h k e z;
 }
 
 -- A LINE that reads as a command d

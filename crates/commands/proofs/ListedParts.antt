@@ -3,11 +3,11 @@
 use Prim.Native.Nat.{ℕ, _+_, _≤_, _<_}
 use mathlib.Core.Path.{_≡_, refl, ap, sym, _∙_}
 use mathlib.Core.Bool.{Bool, true, false, cond}
-use mathlib.Core.List.{List, [], _∷_, _++_, append-nil, append-assoc}
+use mathlib.Core.List.{List, [], _∷_, _++_, append-nil, append-assoc, flatMap}
 use native.Mathlib.Omega.{arith}
 use lib.ListN.{length, drop, drop-of-length-le}
 use Rattle.output.proofs.Sending.{sent-none, sent-more, sent-as}
-use Rattle.model.specs.Sets.{Bytes, joined}
+use Rattle.model.specs.Sets.{Bytes}
 use Rattle.model.specs.Package.{Item, parts}
 use Rattle.model.specs.Sheet.{partLine, listing}
 use Rattle.store.specs.Layout.{slotCount, countOf}
@@ -19,10 +19,10 @@ use Rattle.parts.proofs.PartWalks.{parts-none, next-parts}
 use Rattle.commands.specs.Listings.{GroupSent, Listing, Listed}
 
 -- the line of one part more, or of none
-joined-next : (f : List Item → Bytes) (z : Bool) (g : List Item) (gs hs : List (List Item)) → gs ≡ cond z (g ∷ hs) hs → joined f gs ≡ cond z (f g) [] ++ joined f hs
-unfolding joined
-joined-next f true g gs hs e = ap (joined f) e
-joined-next f false g gs hs e = ap (joined f) e
+joined-next : (f : List Item → Bytes) (z : Bool) (g : List Item) (gs hs : List (List Item)) → gs ≡ cond z (g ∷ hs) hs → flatMap f gs ≡ cond z (f g) [] ++ flatMap f hs
+unfolding flatMap
+joined-next f true g gs hs e = ap (flatMap f) e
+joined-next f false g gs hs e = ap (flatMap f) e
 
 module _ (b : Bytes) (n : ℕ) (out : Bytes) where
   pub listing-begin : Listing b n 0 out 0 out
@@ -39,7 +39,7 @@ module _ (b : Bytes) (n : ℕ) (out : Bytes) where
       is = λ S h en.
           let v = w .is S h en in
           let t = cond (g .part) (partLine S (run i e (S .items))) [] in
-          let r = joined (partLine S) (parts (drop e (S .items))) in
+          let r = flatMap (partLine S) (parts (drop e (S .items))) in
           let end : e ≤ length (S .items) = omega (arith, x .high n (omega arith) (omega arith)) in
           record {
             text = v .text ++ t;
@@ -52,11 +52,11 @@ module _ (b : Bytes) (n : ℕ) (out : Bytes) where
     }
 
     pub listed-end : n ≤ i → n ≤ slotCount → Counted b n → Listed b out at out'
-    unfolding joined
+    unfolding flatMap
     listed-end l m c = record {
       few = omega (arith, w .few, w .within);
       is = λ S h.
           let v = w .is S h (c .is S h) in
           let z : parts (drop i (S .items)) ≡ [] = ap parts (drop-of-length-le (S .items) {i = i} (omega (arith, c .is S h))) ∙ parts-none in
-          sent-as out out' (v .text) (listing S) 0 at (v .is ∙ ap (λ (gs : List (List Item)). v .text ++ joined (partLine S) gs) z ∙ append-nil (v .text)) (v .sent);
+          sent-as out out' (v .text) (listing S) 0 at (v .is ∙ ap (λ (gs : List (List Item)). v .text ++ flatMap (partLine S) gs) z ∙ append-nil (v .text)) (v .sent);
     }

@@ -2,12 +2,12 @@
 -- Assumes nothing.
 use Prim.Native.Nat.{_*_, _≤_}
 use mathlib.Core.Path.{_≡_, refl}
-use mathlib.Core.List.{List, [], _∷_}
+use mathlib.Core.List.{List, [], _∷_, flatMap}
 use mathlib.Core.Option.{Option, none, some}
 use native.Mathlib.Omega.{arith}
 use lib.ListN.{length, length-append}
 use Rattle.names.proofs.Lengths.{name-few}
-use Rattle.model.specs.Sets.{Bytes, joined, Each}
+use Rattle.model.specs.Sets.{Bytes, Each}
 use Rattle.model.specs.Package.{Item, State, content, spelling, parts, mediaTypeOf}
 use Rattle.model.specs.Good.{Good}
 use Rattle.model.specs.Calls.{change}
@@ -18,8 +18,8 @@ use Rattle.model.proofs.FieldSizes.{type-size}
 use Rattle.lines.proofs.Sends.{row-length, answer-length}
 use Rattle.commands.specs.Feeding.{mostShown}
 
-joined-length : (f : List Item → Bytes) (gs : List (List Item)) → Each (λ (g : List Item). length (f g) ≤ 398) gs → length (joined f gs) ≤ 398 * length gs
-unfolding joined
+joined-length : (f : List Item → Bytes) (gs : List (List Item)) → Each (λ (g : List Item). length (f g) ≤ 398) gs → length (flatMap f gs) ≤ 398 * length gs
+unfolding flatMap
 joined-length f [] h = omega arith
 joined-length f (g ∷ gs) h = simp length-append (omega (arith, h .0, joined-length f gs (h .1)))
 

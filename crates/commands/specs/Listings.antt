@@ -3,10 +3,10 @@
 use Prim.Native.Nat.{ℕ, _+_, _*_, _≤_, _<_}
 use mathlib.Core.Path.{_≡_}
 use mathlib.Core.Bool.{Bool, cond}
-use mathlib.Core.List.{[], _++_}
+use mathlib.Core.List.{[], _++_, flatMap}
 use lib.ListN.{length, drop}
 use Rattle.output.specs.Sends.{Sent}
-use Rattle.model.specs.Sets.{Bytes, joined}
+use Rattle.model.specs.Sets.{Bytes}
 use Rattle.model.specs.Package.{State, parts, mediaTypeOf}
 use Rattle.model.specs.Sheet.{partLine, listing}
 use Rattle.store.specs.Layout.{countOf}
@@ -42,7 +42,7 @@ pub record GroupSent (b : Bytes) (f t : ℕ) (out : Bytes) (at next : ℕ) (out'
 pub record ListedTo (S : State) (i : ℕ) (out : Bytes) (at : ℕ) (out' : Bytes) : Type 0 where
   pub text : Bytes
   pub sent : Sent out 0 text at out'
-  pub is : listing S ≡ text ++ joined (partLine S) (parts (drop i (S .items)))
+  pub is : listing S ≡ text ++ flatMap (partLine S) (parts (drop i (S .items)))
 
 -- a walk over n items has come to row i
 pub record Listing (b : Bytes) (n i : ℕ) (out : Bytes) (at : ℕ) (out' : Bytes) : Type 0 where

@@ -1,12 +1,12 @@
 // One line, run on a package.
 use crate::listing::put_listing;
 use contract::answers::Did;
+use contract::gate::opened;
 use items::calls::drop_item;
 use items::calls::put_item;
 use lines::parsing::Command;
 use lines::parsing::parse;
 use lines::printing::put_answer;
-use store::header::is_package;
 use types::calls::put_default;
 use types::calls::put_override;
 ghost use mathlib.Core.Path.{_≡_};
@@ -64,8 +64,9 @@ fn run_drop(pkg: &mut [u8], line: &[u8]) -> u8
 fn run_list(pkg: &[u8], out: &mut [u8]) -> usize
     ensures { λ r. ⌜ Listed (now (pkg .entry)) (now (out .entry)) r (now (out .exit)) ⌝ }
 {
-    if !is_package(pkg) {
-        return put_answer(1, out);
+    let k = opened(pkg);
+    if k != 0 {
+        return put_answer(k, out);
     }
     put_listing(pkg, out)
 }

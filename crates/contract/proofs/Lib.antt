@@ -1,11 +1,14 @@
 pub mod RowSearch
 pub mod RowKeys
+pub mod RowLists
+pub mod RowKinds
 pub mod RowOrders
 pub mod RowCharges
+pub mod Opening
 pub mod Rans
 pub mod ItemRows
 pub mod SetRows
 pub mod FieldSizes
-pub mod FirstRefusals
 pub mod RowEntries
 pub mod SetStates
+pub mod SetCalls

@@ -2,64 +2,61 @@
 -- Assumes nothing.
 use Prim.Native.Nat.{ℕ, _+_, _≤_}
 use mathlib.Core.Path.{_≡_, refl, ap, sym, _∙_, subst}
-use mathlib.Core.Bool.{Bool, true, false, not, _||_, true≢false}
+use mathlib.Core.Bool.{Bool, true, false, _||_, true≢false}
 use mathlib.Core.List.{List, []}
 use native.Mathlib.Omega.{arith}
 use lib.Dec.{ltb, eqb}
 use lib.ListN.{length}
-use borrow.Author.Tests.{ne-eqb, eqb-true, eqb-false, not-true, not-false}
-use Rattle.output.specs.Answers.{Answer, unanswered, filled}
+use borrow.Author.Tests.{ne-eqb, eqb-true, eqb-false}
+use Rattle.output.specs.Answers.{Answer, unanswered}
 use Rattle.output.proofs.Answering.{refusing-is}
 use Rattle.model.specs.Fields.{when}
 use Rattle.model.specs.Package.{State, empty}
 use Rattle.model.specs.Calls.{Look, Find, View, Totals, Change, Print, Call, Start, Looks, Changes, Prints, done, refused, changed, Numbered, capacityLimit, overhead, startRefusal, look, change, changeRefusal, changeMade, printed, valueCount}
 use Rattle.model.proofs.Numbers.{zero-numbered, change-numbered}
 use Rattle.model.proofs.Steps.{change-good}
-use Rattle.store.specs.Packages.{Shape, isPackage}
-use Rattle.store.proofs.PackageTest.{sound-package, package-shape}
+use Rattle.store.specs.Packages.{isPackage}
 use Rattle.contract.specs.Holds.{Lies, Holds}
 use Rattle.contract.specs.Answers.{ofDid}
 use Rattle.contract.specs.declared.answers.Did.the-variants.{Refused}
 use Rattle.contract.specs.Ran.{Ran, noPackage, starts}
+use Rattle.contract.specs.Opening.{Open}
 use Rattle.model.proofs.Refusals.{changed-done}
 
--- what holds an abstract package passes the test
-pub is-package : (b : List ℕ) (S : State) → Holds b S → isPackage b ≡ true
-is-package b S h = sound-package b (h .lies .sound)
+-- bytes that are let in are not foreign
+passed : (p : List ℕ) → Open p → isPackage p ≡ false → {A : Type 0} → A
+passed p o f = absurd (true≢false (sym (o .tested) ∙ f))
 
-module _ (p : List ℕ) (f : isPackage p ≡ false) where
-  passes : isPackage p ≡ true → {A : Type 0} → A
-  passes t = absurd (true≢false (sym t ∙ f))
-
-  never : (S : State) → Holds p S → {A : Type 0} → A
-  never S h = passes (is-package p S h)
-
-  -- the buffer is no package
-  pub looks-foreign : (q : Look) → noPackage (Looks q) .output ≡ [] → Ran (Looks q) p (noPackage (Looks q)) p
-  looks-foreign q o = record { ledger = λ S h. never S h; kept = λ _. (refl, o); foreign = λ _ _. refl; numbered = λ _ t. passes t; begun = tt; sized = refl }
-
-  pub changes-foreign : (c : Change) → Ran (Changes c) p (refused 1) p
-  changes-foreign c = record { ledger = λ S h. never S h; kept = λ _. (refl, refl); foreign = λ _ _. refl; numbered = λ _ t. passes t; begun = tt; sized = refl }
-
-  pub prints-foreign : (w : Print) (output : List ℕ) → Ran (Prints w output) p (noPackage (Prints w output)) p
-  prints-foreign w output = record { ledger = λ S h. never S h; kept = λ _. (refl, refl); foreign = λ _ _. refl; numbered = λ _ t. passes t; begun = tt; sized = refl }
-
-module _ (p : List ℕ) (t : isPackage p ≡ true) where
+module _ (p : List ℕ) (o : Open p) where
   -- a call that only looks
   pub looked : (q : Look) (a : Answer) → Numbered (a .number) → ((a .number ≡ 0 → ⊥) → a .output ≡ []) → ((S : State) → Holds p S → a ≡ look S q) → Ran (Looks q) p a p
-  looked q a n o e = record { ledger = λ S h. (e S h, h); kept = λ r. (refl, o r); foreign = λ _ f. absurd (true≢false (sym t ∙ f)); numbered = λ _ _. n; begun = tt; sized = refl }
+  looked q a n k e = record {
+    ledger = λ S h. (e S h, h);
+    kept = λ r. (refl, k r);
+    foreign = λ _ f. passed p o f;
+    numbered = λ _ _. n;
+    begun = tt;
+    sized = refl;
+  }
 
   -- a call that writes into its output
   pub wrote : (w : Print) (output : List ℕ) (a : Answer) → Numbered (a .number) → ((a .number ≡ 0 → ⊥) → a .output ≡ output) →
       ((S : State) → Holds p S → a ≡ filled (valueCount w) output (printed S (length output) w)) → Ran (Prints w output) p a p
-  wrote w output a n o e = record { ledger = λ S h. (e S h, h); kept = λ r. (refl, o r); foreign = λ _ f. absurd (true≢false (sym t ∙ f)); numbered = λ _ _. n; begun = tt; sized = refl }
+  wrote w output a n k e = record {
+    ledger = λ S h. (e S h, h);
+    kept = λ r. (refl, k r);
+    foreign = λ _ f. passed p o f;
+    numbered = λ _ _. n;
+    begun = tt;
+    sized = refl;
+  }
 
   -- a change that is refused
   pub change-refused : (c : Change) (n : ℕ) → Numbered n → ((S : State) → Holds p S → change S c ≡ (refused n, S)) → Ran (Changes c) p (refused n) p
   change-refused c n u e = record {
     ledger = λ S h. (ap (λ (x : Answer × State). x .0) (sym (e S h)), subst (λ (x : Answer × State). Holds p (x .1)) (sym (e S h)) h);
     kept = λ r. (refl, refl);
-    foreign = λ _ f. absurd (true≢false (sym t ∙ f));
+    foreign = λ _ f. passed p o f;
     numbered = λ _ _. u;
     begun = tt;
     sized = refl;
@@ -70,7 +67,7 @@ module _ (p : List ℕ) (t : isPackage p ≡ true) where
   change-made c q l e = record {
     ledger = λ S h. (sym (e S h .0), record { lies = e S h .1; good = change-good S c (h .good) });
     kept = λ r. absurd (r refl);
-    foreign = λ _ f. absurd (true≢false (sym t ∙ f));
+    foreign = λ _ f. passed p o f;
     numbered = λ _ _. zero-numbered;
     begun = tt;
     sized = l;
@@ -103,34 +100,26 @@ start-refused C p n e z =
     }
 
 -- a change whose answer and bytes are the ledger's, made or refused
-pub ran-changed : (p : List ℕ) → isPackage p ≡ true → (c : Change) (a : Answer) (q : List ℕ) → length q ≡ length p → Numbered (a .number) → ((a .number ≡ 0 → ⊥) → (q ≡ p) × (a .output ≡ [])) →
+pub ran-changed : (p : List ℕ) → Open p → (c : Change) (a : Answer) (q : List ℕ) → length q ≡ length p → Numbered (a .number) →
+    ((a .number ≡ 0 → ⊥) → (q ≡ p) × (a .output ≡ [])) →
     ((S : State) → Holds p S → (a ≡ change S c .0) × Lies q (change S c .1)) → Ran (Changes c) p a q
-ran-changed p t c a q l n k e = record {
+ran-changed p o c a q l n k e = record {
   ledger = λ S h. (e S h .0, record { lies = e S h .1; good = change-good S c (h .good) });
   kept = k;
-  foreign = λ _ f. absurd (true≢false (sym t ∙ f));
+  foreign = λ _ f. passed p o f;
   numbered = λ _ _. n;
   begun = tt;
   sized = l;
 }
 
 -- a change that is refused by its fields
-pub field-refused : (p : List ℕ) → isPackage p ≡ true → (c : Change) (n : ℕ) → (n ≡ 0 → ⊥) → ((S : State) → changeRefusal S c ≡ n) → Ran (Changes c) p (ofDid (Refused n)) p
+pub field-refused : (p : List ℕ) → Open p → (c : Change) (n : ℕ) → (n ≡ 0 → ⊥) → ((S : State) → changeRefusal S c ≡ n) →
+    Ran (Changes c) p (ofDid (Refused n)) p
 unfolding change
-field-refused p t c n z e =
+field-refused p o c n z e =
     rw (refusing-is n z (refused n))
-    (change-refused p t c n (subst Numbered (e (empty 0)) (change-numbered (empty 0) c)) (λ S h. ap (λ (j : ℕ). changed j S (changeMade S c)) (e S) ∙ changed-refused n S (changeMade S c) z))
-
--- x is the test of the buffer
-module _ (p : List ℕ) (x : Bool) (ex : x ≡ isPackage p) where
-  pub closed : not x ≡ true → isPackage p ≡ false
-  closed h = sym ex ∙ not-true x h
-
-  pub opened : not x ≡ false → isPackage p ≡ true
-  opened h = sym ex ∙ not-false x h
-
-  pub opened-shape : not x ≡ false → Shape p
-  opened-shape h = package-shape p (opened h)
+    (change-refused p o c n (subst Numbered (e (empty 0)) (change-numbered (empty 0) c))
+    (λ S h. ap (λ (j : ℕ). changed j S (changeMade S c)) (e S) ∙ changed-refused n S (changeMade S c) z))
 
 -- A CALL ANSWERS: its number is one of document 01's, whatever the bytes
 pub start-small : (room C : ℕ) → startRefusal room C ≤ 2

@@ -23,7 +23,7 @@ use Rattle.store.specs.Layout.{countOf, usedOf, capOf, slotCount}
 use Rattle.store.specs.Rows.{Row, noRow, makeRow, rowSize, rowAt, rowsOf, insertAt, removeAt}
 use Rattle.store.specs.Packages.{Sound, Room, Inserted, Removed}
 use Rattle.store.proofs.Headers.{rows-count, row-getD}
-use Rattle.contract.specs.Rows.{setOf, keyIn, rowKey}
+use Rattle.contract.specs.Rows.{defaultTag, overrideTag, setOf, keyIn, rowKey}
 use Rattle.contract.specs.Searches.{Ordered, Has, Bounded}
 use Rattle.contract.specs.Answers.{ofDid}
 use Rattle.contract.specs.declared.answers.Did.the-variants.{Refused}
@@ -125,6 +125,7 @@ module _ (b : List ℕ) (k : Key) (r m : ℕ) (er : Sought b k r) (em : m ≡ co
         sound = x .sound;
         rows = x .rows ∙ ap₂ (λ (i j : ℕ). take i (rowsOf b) ++ drop j (rowsOf b)) e s ∙ sym (remove-at rowKey k (rowsOf b) j);
         cap = x .cap;
+        format = x .format;
       }
 
   pub drop-done : (q : List ℕ) → r < m → (Sound b → Removed b q r) → Dropped b k done q
@@ -176,10 +177,10 @@ module _ (b : List ℕ) (limit t : ℕ) (f0 f1 f2 f3 : Bytes) (m set r : ℕ) (e
       weighed-many g = fifteen (λ q f _. true≢false (rw (room-is q, le-leb limit n g) at f))
 
       module _ (g : n < limit) where
-        pub weighed-slots : 640 ≤ m → Weighed b limit X 15
+        pub weighed-slots : slotCount ≤ m → Weighed b limit X 15
         weighed-slots h = fifteen (λ q f s. omega arith)
 
-        module _ (h : m < 640) (f : ℕ) (ef : f + usedOf b ≡ capOf b) (z : Bool) (ez : z ≡ leb (rowSize X) f) where
+        module _ (h : m < slotCount) (f : ℕ) (ef : f + usedOf b ≡ capOf b) (z : Bool) (ez : z ≡ leb (rowSize X) f) where
           pub weighed-over : z ≡ false → Weighed b limit X 15
           weighed-over e =
               let o = leb-false (rowSize X) f (sym ez ∙ e) in
@@ -223,6 +224,7 @@ module _ (b : List ℕ) (limit t : ℕ) (f0 f1 f2 f3 : Bytes) (k : ℕ) (w : Wei
           sound = x .sound;
           rows = x .rows ∙ ap (λ (i : ℕ). take i (rowsOf b) ++ (X ∷ drop i (rowsOf b))) e ∙ sym (insert-at rowKey X (rowsOf b));
           cap = x .cap;
+          format = x .format;
         }
 
     pub entered-made : (q : List ℕ) → (Sound b → Inserted b q r (makeRow t f0 f1 f2 f3)) → Entered b limit (makeRow t f0 f1 f2 f3) done q
@@ -236,7 +238,7 @@ module _ (b : List ℕ) (limit t : ℕ) (f0 f1 f2 f3 : Bytes) (k : ℕ) (w : Wei
 
 pub set-le : (t : ℕ) → setOf t ≤ 3
 unfolding setOf
-set-le t = go (ltb t 32768) (eqb t 32768) (eqb t 32769)
+set-le t = go (ltb t defaultTag) (eqb t defaultTag) (eqb t overrideTag)
   where
     go : (x y z : Bool) → cond x 0 (cond y 1 (cond z 2 3)) ≤ 3
     go true y z = omega arith

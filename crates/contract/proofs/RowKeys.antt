@@ -19,7 +19,7 @@ use Rattle.names.specs.declared.items.Suffix.the-variants.{Whole, Piece}
 use Rattle.model.specs.Sets.{Bytes}
 use Rattle.model.specs.Fields.{suffixIn, suffixOf}
 use Rattle.model.specs.Package.{Item, Default, Override, Relationship, rank, keyOfItem, keyOfDefault, keyOfOverride, keyOfRelationship}
-use Rattle.contract.specs.Rows.{tagOf, defaultTag, relationshipTag, itemRow, defaultRow, overrideRow, relationshipRow, setOf, second, rowKey}
+use Rattle.contract.specs.Rows.{tagOf, defaultTag, overrideTag, relationshipTag, itemRow, defaultRow, overrideRow, relationshipRow, setOf, second, rowKey}
 
 -- TAGS. A piece's number is at most 9,999, so an item's tag is below those of the other sets
 abbrev Small : Suffix → Type 0
@@ -105,7 +105,7 @@ pub relationship-row-set : (r : Relationship) → setOf (relationshipRow r .tag)
 unfolding relationshipRow setOf
 relationship-row-set r =
     let t = relationshipTag + r .mode in
-    rw (le-ltb t 32768 (omega arith), ne-eqb t 32768 (λ e. omega arith), ne-eqb t 32769 (λ e. omega arith))
+    rw (le-ltb t defaultTag (omega arith), ne-eqb t defaultTag (λ e. omega arith), ne-eqb t overrideTag (λ e. omega arith))
 
 pub relationship-row-key : (r : Relationship) → rowKey (relationshipRow r) ≡ (3 ∷ keyOfRelationship r .0, keyOfRelationship r .1)
 unfolding relationshipRow second

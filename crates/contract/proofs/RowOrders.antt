@@ -7,138 +7,100 @@ use mathlib.Core.List.{List, [], _∷_, _++_, map}
 use native.Mathlib.Omega.{arith}
 use lib.ListN.{length}
 use Rattle.chars.specs.Folding.{fold}
-use Rattle.model.specs.Sets.{Key, isLess, before, Each, Pairs, Sorted}
+use Rattle.model.specs.Sets.{Key, isLess, before, Each, Sorted}
 use Rattle.model.specs.Places.{firstWhere, bound}
-use Rattle.model.specs.Package.{State, keyOfItem, keyOfDefault, keyOfOverride, keyOfRelationship}
-use Rattle.model.specs.Good.{Good}
-use Rattle.model.proofs.Lists.{each-map, none-any}
+use Rattle.model.specs.Package.{State}
+use Rattle.model.specs.Good.{Good, GoodSet}
+use Rattle.model.proofs.Lists.{each-map, pairs-map, none-any}
 use Rattle.model.proofs.Walks.{first-append-none, first-append-stop, first-map}
 use Rattle.store.specs.Rows.{Row}
-use Rattle.contract.specs.Rows.{itemRow, defaultRow, overrideRow, relationshipRow, otherRows, rowsFor, setOf, second, rowKey}
+use Rattle.contract.specs.Rows.{setOf, second, setKey, rowKey, RowKind, itemRows, defaultRows, overrideRows, relationshipRows, entryRows, otherRows, rowsFor}
 use Rattle.contract.specs.Holds.{Holds}
 use Rattle.contract.specs.Searches.{Ordered}
 use Rattle.contract.proofs.RowSearch.{set-less, set-greater, set-same}
-use Rattle.contract.proofs.RowKeys.{item-row-key, item-row-set, default-row-key, default-row-set, override-row-key, override-row-set, relationship-row-key, relationship-row-set}
+use Rattle.contract.proofs.RowLists.{pairs-append, each-of, pairs-under}
+use Rattle.contract.proofs.RowKinds.{RowLawful, own-rows, item-rows, default-rows, override-rows, relationship-rows}
 
--- LISTS
-module _ {E : Type 0} where
-  pub each-append : (P : E → Type 0) (xs ys : List E) → Each P xs → Each P ys → Each P (xs ++ ys)
-  each-append P [] ys a b = b
-  each-append P (x ∷ xs) ys a b = (a .0, each-append P xs ys (a .1) b)
+-- rows of lesser and of greater sets beside a key of the set n
+module _ (n : ℕ) (k : Key) (r : Row) where
+  pub row-less : setOf (r .tag) < n → before (rowKey r) (setKey n k) ≡ true
+  row-less h = ap isLess (set-less (setOf (r .tag)) n (fold (r .f0)) (k .0) (second (setOf (r .tag)) (r .tag) (r .f1)) (k .1) h)
 
-  pairs-append : (R : E → E → Type 0) (xs ys : List E) → Pairs R xs → Pairs R ys → Each (λ (x : E). Each (R x) ys) xs → Pairs R (xs ++ ys)
-  pairs-append R [] ys a b c = b
-  pairs-append R (x ∷ xs) ys a b c = (each-append (R x) xs ys (a .0) (c .0), pairs-append R xs ys (a .1) b (c .1))
+  pub row-greater : n < setOf (r .tag) → before (rowKey r) (setKey n k) ≡ false
+  row-greater h = ap isLess (set-greater (setOf (r .tag)) n (fold (r .f0)) (k .0) (second (setOf (r .tag)) (r .tag) (r .f1)) (k .1) h)
 
-module _ {E F : Type 0} (f : E → F) where
-  pub each-of : (P : F → Type 0) → ((x : E) → P (f x)) → (xs : List E) → Each P (map f xs)
-  each-of P h [] = tt
-  each-of P h (x ∷ xs) = (h x, each-of P h xs)
+-- ONE SET
+module _ {E : Type 0} (K : RowKind E) (L : RowLawful K) where
+  abbrev key : E → Key
+  key = K .kind .key
 
-  each-under : (P : F → Type 0) (xs : List E) → Each (λ (x : E). P (f x)) xs → Each P (map f xs)
-  each-under P [] h = tt
-  each-under P (x ∷ xs) h = (h .0, each-under P xs (h .1))
+  same-before : (x y : E) → before (rowKey (K .row x)) (rowKey (K .row y)) ≡ before (key x) (key y)
+  same-before x y =
+      ap₂ before (L .keyed x) (L .keyed y) ∙ ap isLess (set-same (K .set) (key x .0) (key y .0) (key x .1) (key y .1))
 
-  pairs-under : (R : F → F → Type 0) (xs : List E) → Pairs (λ (x y : E). R (f x) (f y)) xs → Pairs R (map f xs)
-  pairs-under R [] h = tt
-  pairs-under R (x ∷ xs) h = (each-under (R (f x)) xs (h .0), pairs-under R xs (h .1))
+  set-sorted : (xs : List E) → GoodSet (K .kind) xs → Sorted rowKey (map (K .row) xs)
+  set-sorted xs g =
+      pairs-under (K .row) (λ (a b : Row). before (rowKey a) (rowKey b) ≡ true) xs
+      (pairs-map (λ (x y : E). before (key x) (key y) ≡ true) (λ (x y : E). before (rowKey (K .row x)) (rowKey (K .row y)) ≡ true) xs
+      (λ x y e. same-before x y ∙ e) (g .sorted))
 
--- SETS ONE BEHIND THE OTHER
-set-before : (x y : Row) → setOf (x .tag) < setOf (y .tag) → before (rowKey x) (rowKey y) ≡ true
-set-before x y h = ap isLess (set-less (setOf (x .tag)) (setOf (y .tag)) (fold (x .f0)) (fold (y .f0)) (second (setOf (x .tag)) (x .tag) (x .f1)) (second (setOf (y .tag)) (y .tag) (y .f1)) h)
-
--- rows of the set n before rows of greater sets
-sets-apart : (n : ℕ) (xs ys : List Row) → Each (λ (r : Row). setOf (r .tag) ≡ n) xs → Each (λ (r : Row). n < setOf (r .tag)) ys
-    → Each (λ (x : Row). Each (λ (y : Row). before (rowKey x) (rowKey y) ≡ true) ys) xs
-sets-apart n [] ys a b = tt
-sets-apart n (x ∷ xs) ys a b =
-    (each-map (λ (y : Row). n < setOf (y .tag)) (λ (y : Row). before (rowKey x) (rowKey y) ≡ true) ys (λ y h. set-before x y (omega (arith, a .0))) b, sets-apart n xs ys (a .1) b)
-
-module _ {E : Type 0} (key : E → Key) (row : E → Row) (n : ℕ) (is : (x : E) → rowKey (row x) ≡ (n ∷ key x .0, key x .1)) where
-  same-before : (x y : E) → before (rowKey (row x)) (rowKey (row y)) ≡ before (key x) (key y)
-  same-before x y = ap₂ before (is x) (is y) ∙ ap isLess (set-same n (key x .0) (key y .0) (key x .1) (key y .1))
-
-  pub set-sorted : (xs : List E) → Sorted key xs → Sorted rowKey (map row xs)
-  set-sorted xs s = pairs-under row (λ (a b : Row). before (rowKey a) (rowKey b) ≡ true) xs (go xs s)
+  -- its rows are before those behind them
+  set-apart : (S : State) → Each (λ (x : Row). Each (λ (y : Row). before (rowKey x) (rowKey y) ≡ true) (L .back S)) (entryRows K S)
+  set-apart S =
+      each-of (K .row) (λ (x : Row). Each (λ (y : Row). before (rowKey x) (rowKey y) ≡ true) (L .back S))
+      (λ x. each-map (λ (y : Row). K .set < setOf (y .tag)) (λ (y : Row). before (rowKey (K .row x)) (rowKey y) ≡ true) (L .back S)
+      (λ y h. apart x y h) (L .above S)) (K .kind .entries S)
     where
-      one : (x : E) (ys : List E) → Each (λ (y : E). before (key x) (key y) ≡ true) ys → Each (λ (y : E). before (rowKey (row x)) (rowKey (row y)) ≡ true) ys
-      one x ys h = each-map (λ (y : E). before (key x) (key y) ≡ true) (λ (y : E). before (rowKey (row x)) (rowKey (row y)) ≡ true) ys (λ y e. same-before x y ∙ e) h
+      apart : (x : E) (y : Row) → K .set < setOf (y .tag) → before (rowKey (K .row x)) (rowKey y) ≡ true
+      apart x y h =
+          row-less (setOf (y .tag)) (fold (y .f0), second (setOf (y .tag)) (y .tag) (y .f1)) (K .row x) (omega (arith, L .placed x))
 
-      go : (ys : List E) → Sorted key ys → Pairs (λ (x y : E). before (rowKey (row x)) (rowKey (row y)) ≡ true) ys
-      go [] h = tt
-      go (x ∷ ys) h = (one x ys (h .0), go ys (h .1))
-
-  -- the bound of a key over all rows is that in its set, behind the rows a of lesser sets and before the rows b of greater ones
-  pub set-bound : (k : Key) (a b : List Row) (xs : List E) → Each (λ (r : Row). setOf (r .tag) < n) a → Each (λ (r : Row). n < setOf (r .tag)) b
-      → bound rowKey (n ∷ k .0, k .1) (a ++ (map row xs ++ b)) ≡ length a + bound key k xs
+  -- the bound of a key over all rows is that in its set, behind the rows of lesser sets
+  pub set-bound : (k : Key) (S : State) → bound rowKey (setKey (K .set) k) (rowsFor S)
+      ≡ length (L .front S) + bound key k (K .kind .entries S)
   unfolding firstWhere
-  set-bound k a b xs lo hi =
-      first-append-none p a (map row xs ++ b) (none-any p a (each-map (λ (r : Row). setOf (r .tag) < n) (λ (r : Row). p r ≡ false) a (λ r h. fails r h) lo))
-      ∙ ap (λ (m : ℕ). length a + m) (first-append-stop p (map row xs) b (stops b hi) ∙ first-map row p (λ (x : E). not (before (key x) k)) one xs)
+  set-bound k S =
+      ap (bound rowKey (setKey (K .set) k)) (own-rows K L S)
+      ∙ first-append-none p (L .front S) (entryRows K S ++ L .back S)
+      (none-any p (L .front S)
+      (each-map (λ (r : Row). setOf (r .tag) < K .set) (λ (r : Row). p r ≡ false) (L .front S) (λ r h. ap not (row-less (K .set) k r h))
+      (L .below S)))
+      ∙ ap (λ (m : ℕ). length (L .front S) + m)
+      (first-append-stop p (entryRows K S) (L .back S) (stops (L .back S) (L .above S))
+      ∙ first-map (K .row) p (λ (x : E). not (before (key x) k)) one (K .kind .entries S))
     where
       p : Row → Bool
-      p r = not (before (rowKey r) (n ∷ k .0, k .1))
+      p r = not (before (rowKey r) (setKey (K .set) k))
 
-      fails : (r : Row) → setOf (r .tag) < n → not (before (rowKey r) (n ∷ k .0, k .1)) ≡ false
-      fails r h = ap (λ (o : _). not (isLess o)) (set-less (setOf (r .tag)) n (fold (r .f0)) (k .0) (second (setOf (r .tag)) (r .tag) (r .f1)) (k .1) h)
+      one : (x : E) → not (before (rowKey (K .row x)) (setKey (K .set) k)) ≡ not (before (key x) k)
+      one x =
+          ap (λ (j : Key). not (before j (setKey (K .set) k))) (L .keyed x)
+          ∙ ap (λ (o : _). not (isLess o)) (set-same (K .set) (key x .0) (k .0) (key x .1) (k .1))
 
-      passes : (r : Row) → n < setOf (r .tag) → not (before (rowKey r) (n ∷ k .0, k .1)) ≡ true
-      passes r h = ap (λ (o : _). not (isLess o)) (set-greater (setOf (r .tag)) n (fold (r .f0)) (k .0) (second (setOf (r .tag)) (r .tag) (r .f1)) (k .1) h)
-
-      one : (x : E) → not (before (rowKey (row x)) (n ∷ k .0, k .1)) ≡ not (before (key x) k)
-      one x = ap (λ (j : Key). not (before j (n ∷ k .0, k .1))) (is x) ∙ ap (λ (o : _). not (isLess o)) (set-same n (key x .0) (k .0) (key x .1) (k .1))
-
-      stops : (ys : List Row) → Each (λ (r : Row). n < setOf (r .tag)) ys → firstWhere (λ (r : Row). not (before (rowKey r) (n ∷ k .0, k .1))) ys ≡ 0
+      stops : (ys : List Row) → Each (λ (r : Row). K .set < setOf (r .tag)) ys →
+          firstWhere (λ (r : Row). not (before (rowKey r) (setKey (K .set) k))) ys ≡ 0
       stops [] h = refl
-      stops (y ∷ ys) h = rw (passes y (h .0))
+      stops (y ∷ ys) h = rw (row-greater (K .set) k y (h .0))
 
 -- THE ROWS OF A STATE
-all-set : {E : Type 0} (row : E → Row) (n : ℕ) → ((x : E) → setOf (row x .tag) ≡ n) → (xs : List E) → Each (λ (r : Row). setOf (r .tag) ≡ n) (map row xs)
-all-set row n h xs = each-of row (λ (r : Row). setOf (r .tag) ≡ n) h xs
-
-above : (m n : ℕ) → m < n → (xs : List Row) → Each (λ (r : Row). setOf (r .tag) ≡ n) xs → Each (λ (r : Row). m < setOf (r .tag)) xs
-above m n h xs e = each-map (λ (r : Row). setOf (r .tag) ≡ n) (λ (r : Row). m < setOf (r .tag)) xs (λ r k. omega arith) e
-
-module _ (S : State) where
-  ds : Each (λ (r : Row). setOf (r .tag) ≡ 1) (map defaultRow (S .defaults))
-  ds = all-set defaultRow 1 default-row-set (S .defaults)
-
-  os : Each (λ (r : Row). setOf (r .tag) ≡ 2) (map overrideRow (S .overrides))
-  os = all-set overrideRow 2 override-row-set (S .overrides)
-
-  rs : Each (λ (r : Row). setOf (r .tag) ≡ 3) (map relationshipRow (S .relationships))
-  rs = all-set relationshipRow 3 relationship-row-set (S .relationships)
-
-  pub defaults-above : Each (λ (r : Row). 1 < setOf (r .tag)) (map overrideRow (S .overrides) ++ map relationshipRow (S .relationships))
-  defaults-above =
-      each-append (λ (r : Row). 1 < setOf (r .tag)) (map overrideRow (S .overrides)) (map relationshipRow (S .relationships))
-      (above 1 2 (omega arith) (map overrideRow (S .overrides)) os) (above 1 3 (omega arith) (map relationshipRow (S .relationships)) rs)
-
-  pub others-above : Each (λ (r : Row). 0 < setOf (r .tag)) (otherRows S)
-  unfolding otherRows
-  others-above =
-      each-append (λ (r : Row). 0 < setOf (r .tag)) (map defaultRow (S .defaults)) (map overrideRow (S .overrides) ++ map relationshipRow (S .relationships))
-      (above 0 1 (omega arith) (map defaultRow (S .defaults)) ds)
-      (each-map (λ (r : Row). 1 < setOf (r .tag)) (λ (r : Row). 0 < setOf (r .tag)) (map overrideRow (S .overrides) ++ map relationshipRow (S .relationships)) (λ r h. omega arith) defaults-above)
-
-  pub items-below : Each (λ (r : Row). setOf (r .tag) < 1) (map itemRow (S .items))
-  items-below = each-map (λ (r : Row). setOf (r .tag) ≡ 0) (λ (r : Row). setOf (r .tag) < 1) (map itemRow (S .items)) (λ r k. omega arith) (all-set itemRow 0 item-row-set (S .items))
-
-  pub rows-sorted : Good S → Sorted rowKey (rowsFor S)
-  unfolding rowsFor otherRows
-  rows-sorted g =
-      let R : Row → Row → Type 0 = λ (x y : Row). before (rowKey x) (rowKey y) ≡ true in
-      let o = map overrideRow (S .overrides) in
-      let r = map relationshipRow (S .relationships) in
-      let d = map defaultRow (S .defaults) in
-      let i = map itemRow (S .items) in
-      pairs-append R i (d ++ (o ++ r)) (set-sorted keyOfItem itemRow 0 item-row-key (S .items) (g .items .sorted))
-      (pairs-append R d (o ++ r) (set-sorted keyOfDefault defaultRow 1 default-row-key (S .defaults) (g .defaults .sorted))
-      (pairs-append R o r (set-sorted keyOfOverride overrideRow 2 override-row-key (S .overrides) (g .overrides .sorted))
-      (set-sorted keyOfRelationship relationshipRow 3 relationship-row-key (S .relationships) (g .relationships .sorted))
-      (sets-apart 2 o r os (above 2 3 (omega arith) r rs)))
-      (sets-apart 1 d (o ++ r) ds defaults-above))
-      (sets-apart 0 i (d ++ (o ++ r)) (all-set itemRow 0 item-row-set (S .items)) others-above)
+pub rows-sorted : (S : State) → Good S → Sorted rowKey (rowsFor S)
+unfolding rowsFor otherRows item-rows default-rows override-rows
+rows-sorted S g =
+    let P : Row → Row → Type 0 = λ (x y : Row). before (rowKey x) (rowKey y) ≡ true in
+    let I = entryRows itemRows S in
+    let D = entryRows defaultRows S in
+    let O = entryRows overrideRows S in
+    let R = entryRows relationshipRows S in
+    pairs-append P I (D ++ (O ++ R)) (set-sorted itemRows item-rows (S .items) (g .items))
+    (pairs-append P D (O ++ R) (set-sorted defaultRows default-rows (S .defaults) (g .defaults))
+    (pairs-append P O R (set-sorted overrideRows override-rows (S .overrides) (g .overrides))
+    (set-sorted relationshipRows relationship-rows (S .relationships) (g .relationships))
+    (set-apart overrideRows override-rows S))
+    (set-apart defaultRows default-rows S))
+    (set-apart itemRows item-rows S)
 
 pub holds-ordered : (b : List ℕ) (S : State) → Holds b S → Ordered b
-holds-ordered b S h = record { sound = h .lies .sound; sorted = subst (Sorted rowKey) (sym (h .lies .rows)) (rows-sorted S (h .good)) }
+holds-ordered b S h = record {
+  sound = h .lies .sound;
+  sorted = subst (Sorted rowKey) (sym (h .lies .rows)) (rows-sorted S (h .good));
+}

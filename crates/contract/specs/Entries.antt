@@ -9,7 +9,7 @@ use Rattle.output.specs.Answers.{Answer}
 use Rattle.model.specs.Sets.{Key, held, lookup, insert, remove}
 use Rattle.model.specs.Places.{bound, spot}
 use Rattle.model.specs.Calls.{done, refused, Numbered}
-use Rattle.store.specs.Layout.{capOf, countOf, usedOf, slotCount}
+use Rattle.store.specs.Layout.{formatOf, capOf, countOf, usedOf, slotCount}
 use Rattle.store.specs.Rows.{Row, rowSize, rowsOf}
 use Rattle.store.specs.Packages.{Sound}
 use Rattle.contract.specs.Rows.{setOf, keyIn, rowKey}
@@ -44,11 +44,12 @@ pub record Weighed (b : List ℕ) (limit : ℕ) (x : Row) (k : ℕ) : Type 0 whe
   pub free : k ≡ 0 → Ordered b → keyTaken b x ≡ false
   pub numbered : Numbered k
 
--- q has the rows rs in the place of those of b
+-- q has the rows rs in the place of those of b, with the same capacity and format
 pub record Became (b q : List ℕ) (rs : List Row) : Type 0 where
   pub sound : Sound q
   pub rows : rowsOf q ≡ rs
   pub cap : capOf q ≡ capOf b
+  pub format : formatOf q ≡ formatOf b
 
 -- a is the answer to a new row x, and q the buffer after it
 pub record Entered (b : List ℕ) (limit : ℕ) (x : Row) (a : Answer) (q : List ℕ) : Type 0 where

@@ -5,7 +5,7 @@ use mathlib.Core.Path.{_≡_}
 use mathlib.Core.List.{List}
 use Rattle.model.specs.Package.{State}
 use Rattle.model.specs.Good.{Good}
-use Rattle.store.specs.Layout.{capOf}
+use Rattle.store.specs.Layout.{formatOf, packageFormat, capOf}
 use Rattle.store.specs.Rows.{rowsOf}
 use Rattle.store.specs.Packages.{Sound}
 use Rattle.contract.specs.Rows.{rowsFor}
@@ -13,6 +13,7 @@ use Rattle.contract.specs.Rows.{rowsFor}
 -- the bytes lie as the rows of the abstract package
 pub record Lies (b : List ℕ) (S : State) : Type 0 where
   pub sound : Sound b
+  pub format : formatOf b ≡ packageFormat
   pub rows : rowsOf b ≡ rowsFor S
   pub capacity : capOf b ≡ S .capacity
 

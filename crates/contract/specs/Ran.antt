@@ -11,15 +11,18 @@ use Rattle.model.specs.Calls.{Find, View, Totals, Call, Start, Looks, Changes, 
 use Rattle.store.specs.Packages.{isPackage}
 use Rattle.contract.specs.Holds.{Holds}
 
--- the answer where the buffer is no package: "1 the buffer is no package", with "0 for every value"; a view has no number, and is empty.
--- (A start is never asked this: it minds no bytes.)
+-- the answer where the buffer itself is turned away by the number n, with "0 for every value"; a view has no number, and is empty
+abbrev pub turnedAway : ℕ → Call → Answer
+turnedAway n (Start C) = refused n
+turnedAway n (Looks (Find name)) = refused n
+turnedAway n (Looks (View name)) = answer 0 [] []
+turnedAway n (Looks Totals) = answer n (0 ∷ 0 ∷ 0 ∷ []) []
+turnedAway n (Changes c) = refused n
+turnedAway n (Prints p output) = answer n (replicate (valueCount p) 0) output
+
+-- "1 the buffer is no package". (A start is never asked this: it minds no bytes.)
 abbrev pub noPackage : Call → Answer
-noPackage (Start C) = refused 1
-noPackage (Looks (Find name)) = refused 1
-noPackage (Looks (View name)) = answer 0 [] []
-noPackage (Looks Totals) = answer 1 (0 ∷ 0 ∷ 0 ∷ []) []
-noPackage (Changes c) = refused 1
-noPackage (Prints p output) = answer 1 (replicate (valueCount p) 0) output
+noPackage c = turnedAway 1 c
 
 abbrev pub starts : Call → Bool
 starts (Start C) = true

@@ -10,7 +10,7 @@ use Rattle.names.specs.declared.items.Suffix.{Suffix}
 use Rattle.names.specs.declared.items.Suffix.the-variants.{Whole, Piece}
 use Rattle.model.specs.Sets.{Bytes, Key}
 use Rattle.model.specs.Fields.{prefixOf, suffixOf}
-use Rattle.model.specs.Package.{Item, Default, Override, Relationship, State}
+use Rattle.model.specs.Package.{Item, Default, Override, Relationship, State, Kind, itemKind, defaultKind, overrideKind, relationshipKind}
 use Rattle.store.specs.Rows.{Row, makeRow}
 
 -- TAGS. A row's tag tells its set; that of an item also its suffix: 0 for a whole item, twice k + 1 for piece k, and one more for the last
@@ -29,6 +29,9 @@ overrideTag = 32769
 abbrev pub relationshipTag : ℕ
 relationshipTag = 32770
 
+abbrev pub externalTag : ℕ
+externalTag = 32771
+
 -- ROWS. An item: its prefix, the rest of its name, its bytes
 unfoldable pub itemRow : Item → Row
 itemRow i = makeRow (tagOf (suffixOf (i .name))) (prefixOf (i .name)) (drop (length (prefixOf (i .name))) (i .name)) (i .bytes) []
@@ -42,12 +45,35 @@ overrideRow o = makeRow overrideTag (o .name) (o .type) [] []
 unfoldable pub relationshipRow : Relationship → Row
 relationshipRow r = makeRow (relationshipTag + r .mode) (r .source) (r .id) (r .type) (r .target)
 
+-- KINDS. A set of the package as rows: its kind, its number among the sets, the row of an entry
+pub record RowKind (E : Type 0) : Type 0 where
+  pub kind : Kind E
+  pub set : ℕ
+  pub row : E → Row
+
+abbrev pub itemRows : RowKind Item
+itemRows = record { kind = itemKind; set = 0; row = itemRow }
+
+abbrev pub defaultRows : RowKind Default
+defaultRows = record { kind = defaultKind; set = 1; row = defaultRow }
+
+abbrev pub overrideRows : RowKind Override
+overrideRows = record { kind = overrideKind; set = 2; row = overrideRow }
+
+abbrev pub relationshipRows : RowKind Relationship
+relationshipRows = record { kind = relationshipKind; set = 3; row = relationshipRow }
+
+-- the rows of a set
+module _ {E : Type 0} (K : RowKind E) where
+  abbrev pub entryRows : State → List Row
+  entryRows S = map (K .row) (K .kind .entries S)
+
 unfoldable pub otherRows : State → List Row
-otherRows S = map defaultRow (S .defaults) ++ (map overrideRow (S .overrides) ++ map relationshipRow (S .relationships))
+otherRows S = entryRows defaultRows S ++ (entryRows overrideRows S ++ entryRows relationshipRows S)
 
 -- items, then Defaults, Overrides and relationships, each set in its order
 unfoldable pub rowsFor : State → List Row
-rowsFor S = map itemRow (S .items) ++ otherRows S
+rowsFor S = entryRows itemRows S ++ otherRows S
 
 -- KEYS OF ROWS. The set of a tag: 0 items, 1 Defaults, 2 Overrides, 3 relationships
 unfoldable pub setOf : ℕ → ℕ
@@ -58,6 +84,9 @@ unfoldable pub second : ℕ → ℕ → Bytes → Bytes
 second set t id = cond (eqb set 0) (t / 2 ∷ []) (cond (eqb set 3) id [])
 
 -- the set, then the key that the set goes by
+abbrev pub setKey : ℕ → Key → Key
+setKey set k = (set ∷ k .0, k .1)
+
 abbrev pub keyIn : ℕ → Bytes → ℕ → Bytes → Key
 keyIn set p t id = (set ∷ fold p, second set t id)
 

@@ -4,6 +4,7 @@ use crate::search::bound;
 use crate::search::has_key;
 use crate::search::set_of;
 use crate::search::set_start;
+use store::SLOT_COUNT;
 use store::header::count;
 use store::header::free;
 use store::rows::insert;
@@ -97,7 +98,7 @@ fn row_refusal(
     if limit <= row_count(pkg, set) {
         return 15;
     }
-    if 640 <= m {
+    if SLOT_COUNT <= m {
         return 15;
     }
     if has_room(free(pkg), f0.len(), f1.len(), f2.len(), f3.len()) {

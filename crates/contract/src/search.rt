@@ -1,4 +1,10 @@
 // Searching the rows of a package: they stand in the order of their keys.
+use crate::DEFAULTS;
+use crate::DEFAULT_TAG;
+use crate::ITEMS;
+use crate::OVERRIDES;
+use crate::OVERRIDE_TAG;
+use crate::RELATIONSHIPS;
 use chars::folding::Order;
 use chars::folding::compare;
 use chars::folding::compare_folded;
@@ -16,20 +22,20 @@ ghost use Rattle.store.specs.Packages.{Shape};
 ghost use Rattle.contract.specs.Rows.{setOf, second, keyIn};
 ghost use Rattle.contract.specs.Searches.{Stands, Has, Bounded, Counted};
 
-// The set that a row's tag tells: 0 items, 1 Defaults, 2 Overrides, 3 relationships.
+// The set that a row's tag tells.
 pub fn set_of(t: usize) -> usize
     ensures { λ r. ⌜ r ≡ setOf t ⌝ }
 {
-    if t < 32768 {
-        return 0;
+    if t < DEFAULT_TAG {
+        return ITEMS;
     }
-    if t == 32768 {
-        return 1;
+    if t == DEFAULT_TAG {
+        return DEFAULTS;
     }
-    if t == 32769 {
-        return 2;
+    if t == OVERRIDE_TAG {
+        return OVERRIDES;
     }
-    3
+    RELATIONSHIPS
 }
 
 fn compare_numbers(x: usize, y: usize) -> Order
@@ -48,10 +54,10 @@ fn compare_numbers(x: usize, y: usize) -> Order
 fn compare_second(set: usize, u: usize, other: &[u8], t: usize, id: &[u8]) -> Order
     ensures { λ r. ⌜ r ≡ order (second set u (now (other .entry))) (second set t (now (id .entry))) ⌝ }
 {
-    if set == 0 {
+    if set == ITEMS {
         return compare_numbers(u / 2, t / 2);
     }
-    if set == 3 {
+    if set == RELATIONSHIPS {
         return compare(other, id);
     }
     Order::Equal
@@ -123,7 +129,7 @@ pub fn item_count(pkg: &[u8]) -> usize
     requires { ⌜ Shape (now pkg) ⌝ }
     ensures { λ r. ⌜ Counted (now (pkg .entry)) r ⌝ }
 {
-    set_start(pkg, 1)
+    set_start(pkg, DEFAULTS)
 }
 
 // The first row whose key is not before the key, by halving: no two rows have one key, so a row that has it ends the search.

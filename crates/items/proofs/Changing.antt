@@ -2,7 +2,7 @@
 -- Assumes nothing.
 use Prim.Native.Nat.{ℕ, _+_, _-_, _^_, _≤_, _<_}
 use mathlib.Core.Path.{_≡_, refl, ap, ap₂, sym, _∙_, subst}
-use mathlib.Core.Bool.{Bool, true, false, not}
+use mathlib.Core.Bool.{false}
 use mathlib.Core.List.{[], _∷_, _++_, map}
 use mathlib.Core.Option.{none, some}
 use native.Mathlib.Nat.{zero-add}
@@ -16,7 +16,7 @@ use Rattle.model.specs.Sets.{Bytes, insert, remove, held, lookup}
 use Rattle.model.specs.Places.{place, spot}
 use Rattle.model.specs.Fields.{first, prefixOf, suffixOf, itemField}
 use Rattle.model.specs.Package.{State, Item, itemKey, keyOfItem, itemAt}
-use Rattle.model.specs.Calls.{Changes, PutItem, DropItem, done, refused, changed, change, withItems, clash, putItemRefusal, dropItemRefusal}
+use Rattle.model.specs.Calls.{Changes, PutItem, DropItem, done, refused, changed, change, withItems, putItemRefusal, dropItemRefusal}
 use Rattle.model.proofs.Numbers.{numbered}
 use Rattle.model.proofs.Rows.{rows-insert, rows-remove}
 use Rattle.model.proofs.ItemNames.{accepted-prefix}
@@ -25,15 +25,16 @@ use Rattle.model.proofs.Sets.{absent}
 use Rattle.model.proofs.Places.{bound-place}
 use Rattle.store.specs.Layout.{countOf}
 use Rattle.store.specs.Rows.{makeRow, insertAt, removeAt}
-use Rattle.store.specs.Packages.{isPackage, Sound, Room, Inserted, Removed}
+use Rattle.store.specs.Packages.{Sound, Room, Inserted, Removed}
 use Rattle.contract.specs.Rows.{tagOf, itemRow, otherRows, rowsFor, keyIn}
 use Rattle.contract.specs.Answers.{ofDid}
 use Rattle.contract.specs.declared.answers.Did.the-variants as did
 use Rattle.contract.specs.Holds.{Lies, Holds}
 use Rattle.contract.specs.Ran.{Ran}
+use Rattle.contract.specs.Opening.{Open}
 use Rattle.contract.specs.Searches.{Bounded}
 use Rattle.contract.proofs.RowKeys.{tag-small}
-use Rattle.contract.proofs.Rans.{field-refused, changes-foreign, change-refused, change-made, changed-refused, closed, opened}
+use Rattle.contract.proofs.Rans.{field-refused, change-refused, change-made, changed-refused}
 use Rattle.items.specs.Wants.{wanted, Located}
 use Rattle.items.specs.Clashes.{Cleared}
 use Rattle.items.specs.declared.wanted.Wanted.{Wanted}
@@ -89,8 +90,8 @@ put-named S s bytes k e z = rw (e, ne-eqb k 0 z)
 
 -- an accepted put finds its key free
 free-key : (S : State) (s bytes : Bytes) → putItemRefusal S s bytes ≡ 0 → held (lookup keyOfItem (itemKey s) (S .items)) ≡ false
-unfolding putItemRefusal clash
-free-key S s bytes e = unmet (held (lookup keyOfItem (itemKey s) (S .items))) 10 (omega arith) (all-none _ (all-none _ e .1 .0) .0)
+unfolding putItemRefusal
+free-key S s bytes e = unmet (held (lookup keyOfItem (itemKey s) (S .items))) 10 (omega arith) (all-none _ e .1 .0)
 
 -- the rows with the item's
 inserted-rows : (S : State) (s bytes : Bytes) (r : ℕ) → r ≡ place keyOfItem (itemKey s) (S .items)
@@ -107,75 +108,86 @@ made-row : (s bytes : Bytes) (n t : ℕ) → n ≡ length (prefixOf s) → t ≡
 unfolding itemRow
 made-row s bytes n t en et = rw (take-rest s n, prefix-take s n en, et, en)
 
--- EACH WAY OUT; x is the test of the buffer
-module _ (p s : Bytes) (x : Bool) (ex : x ≡ isPackage p) where
-  pub drop-foreign : not x ≡ true → Ran (Changes (DropItem s)) p (refused 1) p
-  drop-foreign h = changes-foreign p (closed p x ex h) (DropItem s)
+-- AN ACCEPTED NAME
+module _ (s : Bytes) (w : Wanted) (ew : w ≡ wanted (itemField s) s) (n t : ℕ) (en : w ≡ Named n t) where
+  pub named-is : (n ≡ length (prefixOf s)) × (t ≡ tagOf (suffixOf s)) × (itemField s ≡ 0)
+  named-is = wanted-named (itemField s) s w ew n t en
 
-  pub put-foreign : (bytes : Bytes) → not x ≡ true → Ran (Changes (PutItem s bytes)) p (refused 1) p
-  put-foreign bytes h = changes-foreign p (closed p x ex h) (PutItem s bytes)
+  pub named-some : 0 < length (take n s)
+  named-some = rw (prefix-take s n (named-is .0)) (name-some (prefixOf s) (accepted-prefix s (named-is .2) .0))
 
-  module _ (hx : not x ≡ false) (w : Wanted) (ew : w ≡ wanted (itemField s) s) where
-    pub drop-refused : (k : ℕ) → w ≡ Refused k → Ran (Changes (DropItem s)) p (ofDid (did.Refused k)) p
-    drop-refused k e =
-        let z = wanted-refused (itemField s) s w ew k e in
-        field-refused p (opened p x ex hx) (DropItem s) k (z .1) (λ S. drop-named S s k (z .0) (z .1))
+  pub named-tag : t < 2 ^ 32
+  named-tag = omega (arith, named-is .1, tag-small s)
 
-    pub put-refused : (bytes : Bytes) (k : ℕ) → w ≡ Refused k → Ran (Changes (PutItem s bytes)) p (ofDid (did.Refused k)) p
-    put-refused bytes k e =
-        let z = wanted-refused (itemField s) s w ew k e in
-        field-refused p (opened p x ex hx) (PutItem s bytes) k (z .1) (λ S. put-named S s bytes k (z .0) (z .1))
+-- EACH WAY OUT
+module _ (p : Bytes) (ok : Open p) (s : Bytes) (w : Wanted) (ew : w ≡ wanted (itemField s) s) where
+  pub drop-refused : (k : ℕ) → w ≡ Refused k → Ran (Changes (DropItem s)) p (ofDid (did.Refused k)) p
+  drop-refused k e =
+      let z = wanted-refused (itemField s) s w ew k e in
+      field-refused p ok (DropItem s) k (z .1) (λ S. drop-named S s k (z .0) (z .1))
 
-    module _ (n t : ℕ) (en : w ≡ Named n t) where
-      pub named-is : (n ≡ length (prefixOf s)) × (t ≡ tagOf (suffixOf s)) × (itemField s ≡ 0)
-      named-is = wanted-named (itemField s) s w ew n t en
+  pub put-refused : (bytes : Bytes) (k : ℕ) → w ≡ Refused k → Ran (Changes (PutItem s bytes)) p (ofDid (did.Refused k)) p
+  put-refused bytes k e =
+      let z = wanted-refused (itemField s) s w ew k e in
+      field-refused p ok (PutItem s bytes) k (z .1) (λ S. put-named S s bytes k (z .0) (z .1))
 
-      pub named-some : 0 < length (take n s)
-      named-some = rw (prefix-take s n (named-is .0)) (name-some (prefixOf s) (accepted-prefix s (named-is .2) .0))
+  module _ (n t : ℕ) (en : w ≡ Named n t) where
+    named : (n ≡ length (prefixOf s)) × (t ≡ tagOf (suffixOf s)) × (itemField s ≡ 0)
+    named = named-is s w ew n t en
 
-      pub named-tag : t < 2 ^ 32
-      named-tag = omega (arith, named-is .1, tag-small s)
+    module _ (r m : ℕ) (er : Located p s r) (em : m ≡ countOf p) where
+      pub drop-missing : m ≤ r → Ran (Changes (DropItem s)) p (refused 13) p
+      drop-missing l = change-refused p ok (DropItem s) 13 (numbered 13 (omega arith) (omega arith))
+          (λ S h. drop-no S s 13 (drop-13 S s (named .2) (er .is S h .missing (omega arith))) (λ z. omega arith))
 
-      module _ (r m : ℕ) (er : Located p s r) (em : m ≡ countOf p) where
-        pub drop-missing : m ≤ r → Ran (Changes (DropItem s)) p (refused 13) p
-        drop-missing l = change-refused p (opened p x ex hx) (DropItem s) 13 (numbered 13 (omega arith) (omega arith)) (λ S h. drop-no S s 13 (drop-13 S s (named-is .2) (er .is S h .missing (omega arith))) (λ z. omega arith))
+      pub drop-done : (q : Bytes) → length q ≡ length p → r < m → (Sound p → Removed p q r) → Ran (Changes (DropItem s)) p done q
+      drop-done q lq l rm = change-made p ok (DropItem s) q lq (λ S h. out S h)
+        where
+          out : (S : State) → Holds p S → (change S (DropItem s) .0 ≡ done) × Lies q (change S (DropItem s) .1)
+          out S h =
+              let f = er .is S h in
+              let e = drop-yes S s (drop-0 S s (getD (S .items) r _) (named .2) (f .found (omega arith))) in
+              let o = rm (h .lies .sound) in
+              rw e (
+                refl,
+                record {
+                  sound = o .sound;
+                  format = o .format ∙ h .lies .format;
+                  rows = o .rows ∙ ap (removeAt r) (h .lies .rows) ∙ removed-rows S s r (f .place (omega arith)) (f .within (omega arith));
+                  capacity = o .cap ∙ h .lies .capacity;
+                },
+              )
 
-        pub drop-done : (q : Bytes) → length q ≡ length p → r < m → (Sound p → Removed p q r) → Ran (Changes (DropItem s)) p done q
-        drop-done q lq l rm = change-made p (opened p x ex hx) (DropItem s) q lq (λ S h. out S h)
-          where
-            out : (S : State) → Holds p S → (change S (DropItem s) .0 ≡ done) × Lies q (change S (DropItem s) .1)
-            out S h =
-                let f = er .is S h in
-                let e = drop-yes S s (drop-0 S s (getD (S .items) r _) (named-is .2) (f .found (omega arith))) in
-                let o = rm (h .lies .sound) in
-                rw e
-                (refl, record { sound = o .sound; rows = o .rows ∙ ap (removeAt r) (h .lies .rows) ∙ removed-rows S s r (f .place (omega arith)) (f .within (omega arith)); capacity = o .cap ∙ h .lies .capacity })
+    module _ (bytes : Bytes) (r k : ℕ) (eb : Bounded p (keyIn 0 (take n s) t []) r) (ek : Cleared p s (length bytes) r k) where
+      pub put-clash : (k ≡ 0 → ⊥) → Ran (Changes (PutItem s bytes)) p (ofDid (did.Refused k)) p
+      put-clash z = rw (refusing-is k z (refused k))
+          (change-refused p ok (PutItem s bytes) k (ek .numbered) (λ S h. put-no S s bytes k (ek .is S bytes h refl) z))
 
-      module _ (bytes : Bytes) (r k : ℕ) (eb : Bounded p (keyIn 0 (take n s) t []) r) (ek : Cleared p s (length bytes) r k) where
-        pub put-clash : (k ≡ 0 → ⊥) → Ran (Changes (PutItem s bytes)) p (ofDid (did.Refused k)) p
-        put-clash z = rw (refusing-is k z (refused k)) (change-refused p (opened p x ex hx) (PutItem s bytes) k (ek .numbered) (λ S h. put-no S s bytes k (ek .is S bytes h refl) z))
+      pub put-room : k ≡ 0 → Room p r (length (take n s) + (length (take (length s - n) (drop n s)) + (length bytes + 0)))
+      put-room z = subst (Room p r) sum (ek .room z)
+        where
+          sum : length s + length bytes ≡ length (take n s) + (length (take (length s - n) (drop n s)) + (length bytes + 0))
+          sum = rw (take-rest s n, length-take, length-drop) (omega (arith, prefix-in s n (named .0)))
 
-        pub put-room : k ≡ 0 → Room p r (length (take n s) + (length (take (length s - n) (drop n s)) + (length bytes + 0)))
-        put-room z = subst (Room p r) sum (ek .room z)
-          where
-            sum : length s + length bytes ≡ length (take n s) + (length (take (length s - n) (drop n s)) + (length bytes + 0))
-            sum = rw (take-rest s n, length-take, length-drop) (omega (arith, prefix-in s n (named-is .0)))
-
-        pub put-done : (q : Bytes) → length q ≡ length p → k ≡ 0 → (Sound p → Inserted p q r (makeRow t (take n s) (take (length s - n) (drop n s)) bytes [])) → Ran (Changes (PutItem s bytes)) p done q
-        put-done q lq z ins = change-made p (opened p x ex hx) (PutItem s bytes) q lq (λ S h. out S h)
-          where
-            out : (S : State) → Holds p S → (change S (PutItem s bytes) .0 ≡ done) × Lies q (change S (PutItem s bytes) .1)
-            out S h =
-                let g : putItemRefusal S s bytes ≡ 0 = ek .is S bytes h refl ∙ z in
-                let e = put-yes S s bytes g in
-                let o = ins (h .lies .sound) in
-                let pl : r ≡ place keyOfItem (itemKey s) (S .items) =
-                bound-of p s n t (named-is .0) (named-is .1) r (countOf p) refl eb S h ∙ bound-place keyOfItem (itemKey s) (S .items) (absent keyOfItem (itemKey s) (S .items) (free-key S s bytes g)) in
-                rw e (
-                  refl,
-                  record {
-                    sound = o .sound;
-                    rows = o .rows ∙ ap₂ (insertAt r) (made-row s bytes n t (named-is .0) (named-is .1)) (h .lies .rows) ∙ inserted-rows S s bytes r pl;
-                    capacity = o .cap ∙ h .lies .capacity;
-                  },
-                )
+      pub put-done : (q : Bytes) → length q ≡ length p → k ≡ 0
+          → (Sound p → Inserted p q r (makeRow t (take n s) (take (length s - n) (drop n s)) bytes [])) → Ran (Changes (PutItem s bytes)) p done q
+      put-done q lq z ins = change-made p ok (PutItem s bytes) q lq (λ S h. out S h)
+        where
+          out : (S : State) → Holds p S → (change S (PutItem s bytes) .0 ≡ done) × Lies q (change S (PutItem s bytes) .1)
+          out S h =
+              let g : putItemRefusal S s bytes ≡ 0 = ek .is S bytes h refl ∙ z in
+              let e = put-yes S s bytes g in
+              let o = ins (h .lies .sound) in
+              let pl : r ≡ place keyOfItem (itemKey s) (S .items) =
+              bound-of p s n t (named .0) (named .1) r (countOf p) refl eb S h
+              ∙ bound-place keyOfItem (itemKey s) (S .items) (absent keyOfItem (itemKey s) (S .items) (free-key S s bytes g)) in
+              rw e (
+                refl,
+                record {
+                  sound = o .sound;
+                  format = o .format ∙ h .lies .format;
+                  rows = o .rows ∙ ap₂ (insertAt r) (made-row s bytes n t (named .0) (named .1)) (h .lies .rows)
+                      ∙ inserted-rows S s bytes r pl;
+                  capacity = o .cap ∙ h .lies .capacity;
+                },
+              )

@@ -19,7 +19,7 @@ use Rattle.model.specs.Fields.{first, prefixIn, prefixOf, suffixOf, askedField,
 use Rattle.model.proofs.ItemNames.{prefix-named, suffix-named, prefix-part, refused-number}
 use Rattle.contract.specs.Rows.{tagOf, defaultTag}
 use Rattle.contract.proofs.RowKeys.{tag-small}
-use Rattle.contract.proofs.RowCharges.{prefix-le}
+use Rattle.contract.proofs.RowKinds.{prefix-le}
 use Rattle.items.specs.Wants.{wanted}
 use Rattle.items.specs.declared.wanted.Wanted.{Wanted}
 use Rattle.items.specs.declared.wanted.Wanted.the-variants.{Named, Refused}

@@ -12,18 +12,21 @@ use Rattle.model.specs.Fields.{when, first, itemField}
 use Rattle.model.specs.Package.{State, itemLimit, charge}
 use Rattle.model.specs.Calls.{clash, noRoom, putItemRefusal}
 use Rattle.model.proofs.Numbers.{numbered, zero-numbered}
-use Rattle.store.specs.Layout.{countOf, usedOf, capOf}
+use Rattle.model.proofs.Puts.{put-item-steps}
+use Rattle.store.specs.Layout.{countOf, usedOf, capOf, slotCount}
 use Rattle.contract.specs.Rows.{keyIn}
 use Rattle.contract.specs.Holds.{Holds}
 use Rattle.contract.specs.Searches.{Bounded, Counted}
-use Rattle.contract.proofs.RowCharges.{used-charge, count-rows, length-others}
+use Rattle.contract.proofs.RowKinds.{length-rows}
+use Rattle.contract.proofs.RowCharges.{used-charge, count-rows}
 use Rattle.items.specs.Clashes.{Clashing, Cleared}
 use Rattle.base.proofs.Bools.{or-right}
 
 -- a name that is accepted: then the clash, then the room
 refusal-is : (S : State) (s bytes : Bytes) → itemField s ≡ 0 → putItemRefusal S s bytes ≡ cond (eqb (clash s (S .items)) 0) (when (noRoom itemLimit (length (S .items)) (length s + length bytes) S) 15) (clash s (S .items))
-unfolding putItemRefusal first
-refusal-is S s bytes e = rw e (go (clash s (S .items)) (when (noRoom itemLimit (length (S .items)) (length s + length bytes) S) 15))
+unfolding first
+refusal-is S s bytes e =
+    put-item-steps S s bytes ∙ rw e (go (clash s (S .items)) (when (noRoom itemLimit (length (S .items)) (length s + length bytes) S) 15))
   where
     same : (w : ℕ) (a : Bool) → eqb w 0 ≡ a → cond a 0 w ≡ w
     same w true f = sym (eqb-true w 0 f)
@@ -52,9 +55,9 @@ module _ (b s : Bytes) (size r : ℕ) (accepted : itemField s ≡ 0) (k : ℕ) (
     cleared-many l = full (λ S h. rw (le-leb 256 (length (S .items)) (omega (arith, ec .is S h))))
 
     module _ (few : m < 256) where
-      pub cleared-slots : (c : ℕ) → c ≡ countOf b → 640 ≤ c → Cleared b s size r 15
+      pub cleared-slots : (c : ℕ) → c ≡ countOf b → slotCount ≤ c → Cleared b s size r 15
       cleared-slots c e l = full (λ S h.
-          absurd (omega (arith, count-rows b S h, length-others S, ec .is S h, h .good .defaults .few, h .good .overrides .few, h .good .relationships .few)))
+          absurd (omega (arith, count-rows b S h, length-rows S, ec .is S h, h .good .defaults .few, h .good .overrides .few, h .good .relationships .few)))
 
       module _ (f : ℕ) (ef : f + usedOf b ≡ capOf b) where
         over : f < length s + size → Cleared b s size r 15
@@ -67,7 +70,7 @@ module _ (b s : Bytes) (size r : ℕ) (accepted : itemField s ≡ 0) (k : ℕ) (
         pub cleared-bytes : length s ≤ f → f - length s < size → Cleared b s size r 15
         cleared-bytes l g = over (omega arith)
 
-        pub cleared : (p : Bytes) (t : ℕ) (id : Bytes) → Bounded b (keyIn 0 p t id) r → (c : ℕ) → c ≡ countOf b → c < 640 → length s ≤ f → size ≤ f - length s → Cleared b s size r 0
+        pub cleared : (p : Bytes) (t : ℕ) (id : Bytes) → Bounded b (keyIn 0 p t id) r → (c : ℕ) → c ≡ countOf b → c < slotCount → length s ≤ f → size ≤ f - length s → Cleared b s size r 0
         cleared p t id eb c e l g i = record {
           is = λ S bytes h y.
               room-is S bytes h y

@@ -12,7 +12,7 @@ use Rattle.model.specs.Sets.{Bytes}
 use Rattle.model.specs.Package.{empty}
 use Rattle.model.specs.Calls.{Start, done, refused, startRefusal, capacityLimit, overhead}
 use Rattle.model.proofs.Steps.{empty-good}
-use Rattle.store.specs.Layout.{capOf}
+use Rattle.store.specs.Layout.{formatOf, packageFormat, capOf}
 use Rattle.store.specs.Rows.{rowsOf}
 use Rattle.store.specs.Packages.{Sound}
 use Rattle.contract.specs.Rows.{rowsFor, otherRows}
@@ -37,7 +37,8 @@ start-big p C h = start-refused C p 2 (start-2 (length p) C (rw (lt-ltb capacity
 pub start-short : (p : Bytes) (C : ℕ) → C ≤ capacityLimit → length p < C + overhead → Ran (Start C) p (refused 2) p
 start-short p C h k = start-refused C p 2 (start-2 (length p) C (rw (le-ltb capacityLimit C h, lt-ltb (length p) (C + overhead) k))) (λ z. omega arith)
 
-pub start-done : (p q : Bytes) (C : ℕ) → C ≤ capacityLimit → C + overhead ≤ length p → Sound q × (rowsOf q ≡ []) × (capOf q ≡ C) → length q ≡ length p → Ran (Start C) p done q
+pub start-done : (p q : Bytes) (C : ℕ) → C ≤ capacityLimit → C + overhead ≤ length p
+    → Sound q × (rowsOf q ≡ []) × (capOf q ≡ C) × (formatOf q ≡ packageFormat) → length q ≡ length p → Ran (Start C) p done q
 start-done p q C h k i l =
     started C p q (start-0 (length p) C (rw (le-ltb capacityLimit C h, le-ltb (length p) (C + overhead) k))) l
-    (record { lies = record { sound = i .0; rows = i .1 ∙ no-rows C; capacity = i .2 }; good = empty-good C h })
+    (record { lies = record { sound = i .0; format = i .3; rows = i .1 ∙ no-rows C; capacity = i .2 }; good = empty-good C h })

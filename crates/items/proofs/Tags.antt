@@ -11,7 +11,7 @@ use Rattle.names.specs.declared.items.Suffix.{Suffix}
 use Rattle.names.specs.declared.items.Suffix.the-variants.{Whole, Piece}
 use Rattle.model.specs.Fields.{last}
 use Rattle.model.specs.Package.{rank, disagrees}
-use Rattle.contract.specs.Rows.{tagOf}
+use Rattle.contract.specs.Rows.{tagOf, defaultTag}
 use Rattle.contract.proofs.RowKeys.{tag-half}
 use Rattle.items.specs.Clashes.{tagsDisagree}
 
@@ -50,8 +50,8 @@ tags-disagree-is x y = rw (tag-zero x, tag-zero y, tag-odd x, tag-odd y, tag-hal
     go (Piece k l) (Piece j m) = rw (eqb-suc k, eqb-suc j, ltb-suc j k, ltb-suc k j)
 
 -- A TAG MADE
-pub piece-fits : (x : Suffix) (k : ℕ) (l : Bool) → tagOf x < 32768 → x ≡ Piece k l → 2 * suc k < 32768
-piece-fits x k l h e = let g : 2 * suc k + cond l 1 0 < 32768 = rw e at h in omega arith
+pub piece-fits : (x : Suffix) (k : ℕ) (l : Bool) → tagOf x < defaultTag → x ≡ Piece k l → 2 * suc k < defaultTag
+piece-fits x k l h e = let g : 2 * suc k + cond l 1 0 < defaultTag = rw e at h in omega arith
 
 pub tag-piece : (x : Suffix) (k : ℕ) (l : Bool) (r : ℕ) → x ≡ Piece k l → r ≡ cond l 1 0 → 2 * (k + 1) + r ≡ tagOf x
 tag-piece x k l r e f = rw (e, f, add-one)

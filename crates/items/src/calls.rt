@@ -2,14 +2,17 @@
 use crate::clashes::put_refusal;
 use crate::wanted::Wanted;
 use crate::wanted::asked;
-use crate::wanted::locate;
+use crate::wanted::item_row;
 use crate::wanted::strict;
+use contract::CAPACITY_LIMIT;
+use contract::ITEMS;
+use contract::OVERHEAD;
 use contract::answers::Did;
 use contract::answers::Found;
+use contract::gate::opened;
 use contract::search::bound;
 use store::header::count;
 use store::header::init;
-use store::header::is_package;
 use store::rows::field;
 use store::rows::insert;
 use store::rows::remove;
@@ -21,11 +24,11 @@ ghost use Rattle.contract.specs.Ran.{Ran};
 pub fn start(pkg: &mut [u8], capacity: u64) -> Did
     ensures { λ r. ⌜ Ran (Call.Start capacity) (now (pkg .entry)) (ofDid r) (now (pkg .exit)) ⌝ }
 {
-    if 1000000 < capacity {
+    if CAPACITY_LIMIT < capacity {
         return Did::Refused(2);
     }
     let c = capacity as usize;
-    if pkg.len() < c + 32768 {
+    if pkg.len() < c + OVERHEAD {
         return Did::Refused(2);
     }
     init(pkg, c);
@@ -35,13 +38,14 @@ pub fn start(pkg: &mut [u8], capacity: u64) -> Did
 pub fn put_item(pkg: &mut [u8], name: &[u8], bytes: &[u8]) -> Did
     ensures { λ r. ⌜ Ran (Call.Changes (Change.PutItem (now (name .entry)) (now (bytes .entry)))) (now (pkg .entry)) (ofDid r) (now (pkg .exit)) ⌝ }
 {
-    if !is_package(pkg) {
-        return Did::Refused(1);
+    let k = opened(pkg);
+    if k != 0 {
+        return Did::Refused(k);
     }
     match strict(name) {
         Wanted::Refused(k) => Did::Refused(k),
         Wanted::Named(n, t) => {
-            let r = bound(pkg, 0, &name[..n], t, b"");
+            let r = bound(pkg, ITEMS, &name[..n], t, b"");
             let k = put_refusal(pkg, name, n, t, r, bytes.len());
             if k != 0 {
                 return Did::Refused(k);
@@ -55,13 +59,14 @@ pub fn put_item(pkg: &mut [u8], name: &[u8], bytes: &[u8]) -> Did
 pub fn drop_item(pkg: &mut [u8], name: &[u8]) -> Did
     ensures { λ r. ⌜ Ran (Call.Changes (Change.DropItem (now (name .entry)))) (now (pkg .entry)) (ofDid r) (now (pkg .exit)) ⌝ }
 {
-    if !is_package(pkg) {
-        return Did::Refused(1);
+    let k = opened(pkg);
+    if k != 0 {
+        return Did::Refused(k);
     }
     match strict(name) {
         Wanted::Refused(k) => Did::Refused(k),
         Wanted::Named(n, t) => {
-            let r = locate(pkg, name, n, t);
+            let r = item_row(pkg, name, n, t);
             if r < count(pkg) {
                 remove(pkg, r);
                 return Did::Done;
@@ -75,13 +80,14 @@ pub fn drop_item(pkg: &mut [u8], name: &[u8]) -> Did
 pub fn find_item(pkg: &[u8], name: &[u8]) -> Found
     ensures { λ r. ⌜ Ran (Call.Looks (Look.Find (now (name .entry)))) (now (pkg .entry)) (ofFound r) (now (pkg .entry)) ⌝ }
 {
-    if !is_package(pkg) {
-        return Found::Refused(1);
+    let k = opened(pkg);
+    if k != 0 {
+        return Found::Refused(k);
     }
     match asked(name) {
         Wanted::Refused(k) => Found::Refused(k),
         Wanted::Named(n, t) => {
-            let r = locate(pkg, name, n, t);
+            let r = item_row(pkg, name, n, t);
             if r < count(pkg) {
                 return Found::Length(field(pkg, r, 2).len());
             }
@@ -94,13 +100,14 @@ pub fn find_item(pkg: &[u8], name: &[u8]) -> Found
 pub fn view_item<'a>(pkg: &'a [u8], name: &[u8]) -> &'a [u8]
     ensures { λ r. ⌜ Ran (Call.Looks (Look.View (now (name .entry)))) (now (pkg .entry)) (ofView (now r)) (now (pkg .entry)) ⌝ }
 {
-    if !is_package(pkg) {
+    let k = opened(pkg);
+    if k != 0 {
         return &pkg[0..0];
     }
     match asked(name) {
         Wanted::Refused(_) => &pkg[0..0],
         Wanted::Named(n, t) => {
-            let r = locate(pkg, name, n, t);
+            let r = item_row(pkg, name, n, t);
             if r < count(pkg) {
                 return field(pkg, r, 2);
             }

@@ -5,7 +5,9 @@ use chars::folding::is_derivable;
 use chars::folding::is_equivalent;
 use chars::letters::is_same_letter;
 use chars::starts::same_start;
+use contract::ITEM_LIMIT;
 use contract::search::item_count;
+use store::SLOT_COUNT;
 use store::header::count;
 use store::header::free;
 use store::rows::field;
@@ -175,10 +177,10 @@ pub(crate) fn put_refusal(pkg: &[u8], s: &[u8], n: usize, t: usize, r: usize, si
     if k != 0 {
         return k;
     }
-    if 256 <= m {
+    if ITEM_LIMIT <= m {
         return 15;
     }
-    if 640 <= count(pkg) {
+    if SLOT_COUNT <= count(pkg) {
         return 15;
     }
     let room = free(pkg);

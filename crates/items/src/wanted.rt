@@ -1,5 +1,6 @@
 // The item that a name asks for, and its row.
 use chars::folding::is_equivalent;
+use contract::ITEMS;
 use contract::search::bound;
 use names::items::ItemName;
 use names::items::Suffix;
@@ -67,13 +68,13 @@ pub(crate) fn strict(s: &[u8]) -> Wanted
 }
 
 // The row of the item with the prefix and the tag of s, or the number of rows.
-pub(crate) fn locate(pkg: &[u8], s: &[u8], n: usize, t: usize) -> usize
+pub(crate) fn item_row(pkg: &[u8], s: &[u8], n: usize, t: usize) -> usize
     requires { ⌜ Shape (now pkg) ⌝ }
     requires { ⌜ (n ≡ length (prefixOf (now s))) × (t ≡ tagOf (suffixOf (now s))) ⌝ }
     ensures { λ r. ⌜ Located (now (pkg .entry)) (now (s .entry)) r ⌝ }
 {
     let m = count(pkg);
-    let r = bound(pkg, 0, &s[..n], t, b"");
+    let r = bound(pkg, ITEMS, &s[..n], t, b"");
     if r < m {
         if tag(pkg, r) == t {
             if is_equivalent(field(pkg, r, 0), &s[..n]) {

@@ -1,13 +1,7 @@
 -- Tests compared.
 -- Assumes nothing.
 use mathlib.Core.Path.{_≡_, refl, sym}
-use mathlib.Core.Bool.{Bool, true, false, _||_, Bool·beq}
-
-pub or-comm : (a b : Bool) → (a || b) ≡ (b || a)
-or-comm true true = refl
-or-comm true false = refl
-or-comm false true = refl
-or-comm false false = refl
+use mathlib.Core.Bool.{Bool, true, false, Bool·beq}
 
 pub beq-refl : (b : Bool) → Bool·beq b b ≡ true
 beq-refl true = refl

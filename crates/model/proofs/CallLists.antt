@@ -8,7 +8,8 @@ use Rattle.output.specs.Answers.{Answer}
 use Rattle.model.specs.Package.{State}
 use Rattle.model.specs.Calls.{Call, step, answers, after}
 
-pub answers-append : (room : ℕ) (S : State) (a b : List Call) → answers room S (a ++ b) ≡ answers room S a ++ answers room (after room S a) b
+pub answers-append : (room : ℕ) (S : State) (a b : List Call) →
+    answers room S (a ++ b) ≡ answers room S a ++ answers room (after room S a) b
 unfolding answers after
 answers-append room S [] b = refl
 answers-append room S (c ∷ a) b = ap (λ (l : List Answer). step room S c .0 ∷ l) (answers-append room (step room S c .1) a b)

@@ -38,5 +38,7 @@ module _ {E : Type 0} where
   -- what is read of a content that begins with a piece: of the piece, then of the rest
   pub read-piece :
       (room offset : ℕ) (piece rest : List E) →
-      take room (drop offset (piece ++ rest)) ≡ take room (drop offset piece) ++ take (room - length (drop offset piece)) (drop (offset - length piece) rest)
-  read-piece room offset piece rest = ap (take room) (drop-append offset piece rest) ∙ take-append room (drop offset piece) (drop (offset - length piece) rest)
+      take room (drop offset (piece ++ rest)) ≡ take room (drop offset piece) ++ take (room - length (drop offset piece))
+          (drop (offset - length piece) rest)
+  read-piece room offset piece rest = ap (take room) (drop-append offset piece rest)
+      ∙ take-append room (drop offset piece) (drop (offset - length piece) rest)

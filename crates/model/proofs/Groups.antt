@@ -10,25 +10,23 @@ use lib.Dec.{ltb, eqb}
 use lib.ListN.{length, take, drop}
 use lib.Seq.{slice}
 use borrow.Author.Tests.{le-ltb, lt-ltb, ltb-true, ltb-false, le-leb, lt-leb, ne-eqb, not-false}
-use Rattle.chars.specs.Bytes.{underscore, within, letter, member}
-use Rattle.chars.specs.Lists.{same, every}
+use Rattle.chars.specs.Bytes.{underscore, letter}
+use Rattle.chars.specs.Lists.{same}
 use Rattle.chars.specs.Folding.{fold, equivalent, order}
 use Rattle.chars.proofs.Equivalence.{equivalent-fold, equivalent-refl}
 use Rattle.chars.proofs.Orders.{order-refl}
-use Rattle.base.proofs.Bools.{and-left, and-right}
 use Rattle.chars.specs.declared.folding.Order.{Order}
 use Rattle.chars.specs.declared.folding.Order.the-variants.{Less, Equal, Greater}
-use Rattle.chars.specs.declared.search.Alphabet.the-variants.{Id}
 use Rattle.names.specs.Types.{identifier}
-use Rattle.model.specs.Sets.{Bytes, thenBy, keyOrder, isLess, isEqual, before, Each, Pairs, Sorted}
+use Rattle.names.proofs.Lengths.{identifier-first}
+use Rattle.model.specs.Sets.{Bytes, thenBy, keyOrder, isLess, isEqual, before, Each, AllPairs, Sorted}
 use Rattle.model.specs.Places.{bound, lead}
 use Rattle.model.specs.Fields.{prefixOf, suffixOf, relationshipFields}
-use Rattle.model.specs.Package.{Item, Relationship, rank, keyOfItem, keyOfRelationship, group}
+use Rattle.model.specs.Package.{Item, Relationship, rank, keyOfItem, keyOfRelationship, group, relationshipKind}
 use Rattle.model.specs.Texts.{ofSource}
-use Rattle.model.specs.Good.{fieldsOfRelationship}
-use Rattle.model.proofs.Lists.{each-map, pairs-those}
+use Rattle.model.proofs.Lists.{each-map, pairs-filter}
 use Rattle.model.proofs.Refusals.{all-none, unmet}
-use Rattle.model.proofs.Walks.{Parted, those-between}
+use Rattle.model.proofs.Walks.{Parted, filter-between}
 use Rattle.model.proofs.Places.{not-before-monotone}
 use Rattle.model.proofs.KeyOrders.{goes-on-less}
 use Rattle.model.proofs.Keys.{order-same, number-less}
@@ -74,7 +72,8 @@ least-text [] = refl
 least-text (x ∷ u) = refl
 
 least-item : (p : Bytes) (i : Item) → fold (prefixOf (i .name)) ≡ fold p → before (keyOfItem i) (fold p, 0 ∷ []) ≡ false
-least-item p i e = ap (λ (t : Bytes). before (t, rank (suffixOf (i .name)) ∷ []) (fold p, 0 ∷ [])) e ∙ least-rank (fold p) (rank (suffixOf (i .name)))
+least-item p i e = ap (λ (t : Bytes). before (t, rank (suffixOf (i .name)) ∷ []) (fold p, 0 ∷ [])) e
+    ∙ least-rank (fold p) (rank (suffixOf (i .name)))
 
 -- the group p is the run from the first item that is not before (p folded, rank 0)
 pub group-run :
@@ -95,29 +94,29 @@ lead-small x e = go (ltb x tilde) refl
     go true f = ltb-true x tilde f
     go false f =
         let l : 126 ≤ x = ltb-false x tilde f in
-        absurd (true≢false (sym e ∙ rw (le-leb 65 x (omega arith), lt-leb x 90 (omega arith), le-leb 97 x (omega arith), lt-leb x 122 (omega arith), ne-eqb x underscore (λ z. omega arith))))
+        absurd (true≢false (sym e ∙ rw (le-leb 65 x (omega arith), lt-leb x 90 (omega arith), le-leb 97 x (omega arith),
+            lt-leb x 122 (omega arith), ne-eqb x underscore (λ z. omega arith))))
 
 id-before : (i : Bytes) → identifier i ≡ true → order i (tilde ∷ []) ≡ Less
-unfolding order identifier
+unfolding order
 id-before [] e = refl
-id-before (x ∷ i) e =
-    let w = within 1 63 (length (x ∷ i)) in
-    let f = letter x || eqb x underscore in
-    rw (lt-ltb x tilde (lead-small x (and-right w f (and-left (w && f) (every (member Id) (x ∷ i)) e))))
+id-before (x ∷ i) e = rw (lt-ltb x tilde (lead-small x (identifier-first (x ∷ i) e)))
 
-relationship-id : (r : Relationship) → fieldsOfRelationship r ≡ 0 → identifier (r .id) ≡ true
+relationship-id : (r : Relationship) → relationshipKind .fields r ≡ 0 → identifier (r .id) ≡ true
 unfolding relationshipFields
 relationship-id r z = not-false (identifier (r .id)) (unmet (not (identifier (r .id))) 8 (omega arith) (all-none _ z .1 .0))
 
 -- so the relationships of a source are those between two bounds
 pub source-between :
-    (s : Bytes) (rs : List Relationship) → Sorted keyOfRelationship rs → Each (λ (r : Relationship). fieldsOfRelationship r ≡ 0) rs →
+    (s : Bytes) (rs : List Relationship) → Sorted keyOfRelationship rs → Each (λ (r : Relationship). relationshipKind .fields r ≡ 0) rs →
     ofSource s rs
     ≡ slice (bound keyOfRelationship (fold s, []) rs) (bound keyOfRelationship (fold s, tilde ∷ []) rs) rs
 unfolding keyOrder thenBy equivalent
 source-between s rs o z =
-    those-between p q eqv rs (not-before-monotone keyOfRelationship (fold s, []) rs o) (not-before-monotone keyOfRelationship (fold s, tilde ∷ []) rs o)
-    (each-map (λ (r : Relationship). fieldsOfRelationship r ≡ 0) (Parted p q eqv) rs (λ r h. parted r (id-before (r .id) (relationship-id r h))) z)
+    filter-between p q eqv rs (not-before-monotone keyOfRelationship (fold s, []) rs o)
+        (not-before-monotone keyOfRelationship (fold s, tilde ∷ []) rs o)
+    (each-map (λ (r : Relationship). relationshipKind .fields r ≡ 0) (Parted p q eqv) rs
+        (λ r h. parted r (id-before (r .id) (relationship-id r h))) z)
   where
     p : Relationship → Bool
     p r = not (before (keyOfRelationship r) (fold s, []))
@@ -138,17 +137,23 @@ source-between s rs o z =
         go Greater = ((λ e. refl), refl)
 
 -- the pieces of a group stand by number: "the pieces joined by number"
-pub group-numbered : (p : Bytes) (xs : List Item) → Sorted keyOfItem xs → Pairs (λ (i j : Item). rank (suffixOf (i .name)) < rank (suffixOf (j .name))) (group p xs)
+pub group-numbered : (p : Bytes) (xs : List Item) → Sorted keyOfItem xs →
+    AllPairs (λ (i j : Item). rank (suffixOf (i .name)) < rank (suffixOf (j .name))) (group p xs)
 unfolding group order
 group-numbered p xs s =
-    pairs-those (λ (i j : Item). before (keyOfItem i) (keyOfItem j) ≡ true) (λ (i j : Item). rank (suffixOf (i .name)) < rank (suffixOf (j .name))) (alike p) xs
+    pairs-filter (λ (i j : Item). before (keyOfItem i) (keyOfItem j) ≡ true)
+        (λ (i j : Item). rank (suffixOf (i .name)) < rank (suffixOf (j .name))) (alike p) xs
     (λ i j a b l. number-less (rank (suffixOf (i .name))) (rank (suffixOf (j .name)))
-    (goes-on-less (keyOfItem i) (keyOfItem j) l (equivalent-fold (prefixOf (i .name)) p a ∙ sym (equivalent-fold (prefixOf (j .name)) p b))))
+    (goes-on-less (keyOfItem i) (keyOfItem j) l (equivalent-fold (prefixOf (i .name)) p a
+        ∙ sym (equivalent-fold (prefixOf (j .name)) p b))))
     s
 
 -- the relationships of a source stand "by id bytes"
-pub source-by-id : (s : Bytes) (rs : List Relationship) → Sorted keyOfRelationship rs → Pairs (λ (q r : Relationship). order (q .id) (r .id) ≡ Less) (ofSource s rs)
+pub source-by-id : (s : Bytes) (rs : List Relationship) → Sorted keyOfRelationship rs →
+    AllPairs (λ (q r : Relationship). order (q .id) (r .id) ≡ Less) (ofSource s rs)
 source-by-id s rs o =
-    pairs-those (λ (q r : Relationship). before (keyOfRelationship q) (keyOfRelationship r) ≡ true) (λ (q r : Relationship). order (q .id) (r .id) ≡ Less)
+    pairs-filter (λ (q r : Relationship). before (keyOfRelationship q) (keyOfRelationship r) ≡ true)
+        (λ (q r : Relationship). order (q .id) (r .id) ≡ Less)
     (λ (r : Relationship). equivalent (r .source) s) rs
-    (λ q r a b l. goes-on-less (keyOfRelationship q) (keyOfRelationship r) l (equivalent-fold (q .source) s a ∙ sym (equivalent-fold (r .source) s b))) o
+    (λ q r a b l. goes-on-less (keyOfRelationship q) (keyOfRelationship r) l (equivalent-fold (q .source) s a
+        ∙ sym (equivalent-fold (r .source) s b))) o

@@ -1,80 +1,80 @@
 -- Put, then drop of the same: the package is what it was (not only equivalent to it).
 -- Assumes nothing.
-use Prim.Native.Nat.{ℕ, _<_}
-use mathlib.Core.Path.{_≡_, ap, _∙_}
+use Prim.Native.Nat.{ℕ}
+use mathlib.Core.Path.{_≡_, refl, ap, _∙_}
 use mathlib.Core.Bool.{not}
+use mathlib.Core.List.{List, [], _∷_}
 use mathlib.Core.Option.{Option, some}
-use native.Mathlib.Omega.{arith}
 use Rattle.output.specs.Answers.{Answer}
-use Rattle.model.specs.Sets.{Bytes, held, insert}
-use Rattle.model.specs.Fields.{when, suffixOf, last, defaultFields, overrideFields, relationshipFields}
-use Rattle.model.specs.Package.{Item, Default, Override, Relationship, State, itemKey, nameKey, relationshipKey, keyOfItem, keyOfDefault, keyOfOverride, keyOfRelationship, itemAt, sameLast}
-use Rattle.model.specs.Calls.{Change, PutItem, DropItem, PutDefault, DropDefault, PutOverride, DropOverride, PutRelationship, DropRelationship, done, changed, withItems, withDefaults, withOverrides, withRelationships, clash, putItemRefusal, dropItemRefusal, putDefaultRefusal, dropDefaultRefusal, putOverrideRefusal, dropOverrideRefusal, putRelationshipRefusal, dropRelationshipRefusal, changeRefusal, changeMade, change}
-use Rattle.model.proofs.Sets.{Absent, absent, lookup-insert, remove-insert}
+use Rattle.model.specs.Sets.{held, lookup, insert, remove, Each}
+use Rattle.model.specs.Fields.{when, suffixOf, last, extensionField, partField, sourceField, idField, defaultFields, overrideFields, relationshipFields}
+use Rattle.model.specs.Package.{Item, Default, Override, Relationship, State, itemAt, sameLast, Kind, itemKind, defaultKind, overrideKind, relationshipKind, keyOfItem}
+use Rattle.model.specs.Calls.{Change, PutItem, DropItem, PutDefault, DropDefault, PutOverride, DropOverride, PutRelationship, DropRelationship, done, changed, change, changeRefusal, changeMade, putRefusal, dropRefusal, putIn, takenOut, misfits, putItemRefusal, putDefaultRefusal, putOverrideRefusal, putRelationshipRefusal, dropItemRefusal, dropDefaultRefusal, dropOverrideRefusal, dropRelationshipRefusal}
+use Rattle.model.specs.Demand.{dropOf, IsPut}
+use Rattle.model.proofs.Lists.{each-append}
+use Rattle.model.proofs.Sets.{remove-insert}
 use Rattle.model.proofs.Items.{same-last-own}
-use Rattle.model.proofs.Refusals.{all-none, none-all, unmet, changed-done}
+use Rattle.model.proofs.Refusals.{all-none, none-all, changed-done}
+use Rattle.model.proofs.KindLaws.{Lawful, item-lawful, default-lawful, override-lawful, relationship-lawful}
+use Rattle.model.proofs.Puts.{put-fields, put-free, put-found}
 
-module _ (S : State) where
-  -- a change that makes T, and one that is accepted there and leads back
-  undo : (T : State) (n : ℕ) (d : Change) → n ≡ 0 → changeRefusal T d ≡ 0 → changeMade T d ≡ S → change (changed n S T .1) d ≡ (done, S)
+module _ {E : Type 0} (kind : Kind E) (L : Lawful kind) (S : State) (e : E) (own : List ℕ) (h : putRefusal kind S e own ≡ 0) where
+  out-again : takenOut kind (putIn kind S e) (kind .key e) ≡ S
+  out-again =
+      let l = insert (kind .key) e (kind .entries S) in
+      L .again S l (remove (kind .key) (kind .key e) (kind .entries (kind .renewed S l)))
+      ∙ ap (λ (m : List E). kind .renewed S (remove (kind .key) (kind .key e) m)) (L .own S l)
+      ∙ ap (kind .renewed S) (remove-insert (kind .key) e (kind .entries S) (put-free kind S e own h))
+      ∙ L .same S
+
+  -- the drop finds the entry
+  drop-met : (fields : List ℕ) → Each (λ (n : ℕ). n ≡ 0) fields → dropRefusal kind (putIn kind S e) fields (kind .key e) ≡ 0
+  drop-met fields f =
+      let l = insert (kind .key) e (kind .entries S) in
+      let found : lookup (kind .key) (kind .key e) (kind .entries (kind .renewed S l)) ≡ some e =
+      ap (lookup (kind .key) (kind .key e)) (L .own S l) ∙ put-found kind S e own h in
+      none-all _ (each-append (λ (n : ℕ). n ≡ 0) fields _ f (ap (λ (o : Option E). when (not (held o)) 13) found, tt))
+
+  -- a drop that is accepted there, and takes out the entry
+  undo : (d : Change) → changeRefusal (putIn kind S e) d ≡ 0 → changeMade (putIn kind S e) d
+      ≡ takenOut kind (putIn kind S e) (kind .key e) →
+      change (changed (putRefusal kind S e own) S (putIn kind S e) .1) d ≡ (done, S)
   unfolding change
-  undo T n d h r m =
-      ap (λ (U : State). change U d) (ap (λ (q : Answer × State). q .1) (changed-done n S T h))
-      ∙ changed-done (changeRefusal T d) T (changeMade T d) r
-      ∙ ap (λ (U : State). (done, U)) m
+  undo d r m =
+      ap (λ (U : State). change U d) (ap (λ (q : Answer × State). q .1) (changed-done (putRefusal kind S e own) S (putIn kind S e) h))
+      ∙ changed-done (changeRefusal (putIn kind S e) d) (putIn kind S e) (changeMade (putIn kind S e) d) r
+      ∙ ap (λ (U : State). (done, U)) (m ∙ out-again)
 
-  module _ (name bytes : Bytes) (h : putItemRefusal S name bytes ≡ 0) where
-    put-absent : Absent keyOfItem (itemKey name) (S .items)
-    unfolding putItemRefusal clash
-    put-absent =
-        let p₁₀ : 0 < 10 = omega arith in
-        absent keyOfItem (itemKey name) (S .items) (unmet _ 10 p₁₀ (all-none _ (all-none _ h .1 .0) .0))
+-- a new item is what its name asks for
+pub item-found : (S : State) (new : Item) → putRefusal itemKind S new (misfits (new .name) (S .items)) ≡ 0 →
+    itemAt (new .name) (insert keyOfItem new (S .items)) ≡ some new
+unfolding itemAt
+item-found S new h =
+    ap (sameLast (last (suffixOf (new .name)))) (put-found itemKind S new (misfits (new .name) (S .items)) h) ∙ same-last-own new
 
-    -- what was put is what the name asks for
-    pub put-found : itemAt name (insert keyOfItem (record { name = name; bytes = bytes }) (S .items)) ≡ some (record { name = name; bytes = bytes })
-    unfolding itemAt
-    put-found = ap (sameLast (last (suffixOf name))) (lookup-insert keyOfItem (record { name = name; bytes = bytes }) (S .items) put-absent) ∙ same-last-own (record { name = name; bytes = bytes })
-
-    pub put-drop-item : change (change S (PutItem name bytes) .1) (DropItem name) ≡ (done, S)
-    unfolding change putItemRefusal dropItemRefusal
-    put-drop-item =
-        let new : Item = record { name = name; bytes = bytes } in
-        undo (changeMade S (PutItem name bytes)) (putItemRefusal S name bytes) (DropItem name) h
-        (none-all _ (all-none _ h .0, (ap (λ (o : Option Item). when (not (held o)) 13) put-found, tt)))
-        (ap (withItems S) (remove-insert keyOfItem new (S .items) put-absent))
-
-  pub put-drop-default : (extension type : Bytes) → putDefaultRefusal S extension type ≡ 0 → change (change S (PutDefault extension type) .1) (DropDefault extension) ≡ (done, S)
-  unfolding change putDefaultRefusal dropDefaultRefusal defaultFields
-  put-drop-default extension type h =
-      let new : Default = record { extension = extension; type = type } in
-      let z = all-none _ h in
-      let p₁₀ : 0 < 10 = omega arith in
-      let free = absent keyOfDefault (nameKey extension) (S .defaults) (unmet _ 10 p₁₀ (z .1 .0)) in
-      undo (changeMade S (PutDefault extension type)) (putDefaultRefusal S extension type) (DropDefault extension) h
-      (none-all _ (all-none _ (z .0) .0, (ap (λ (o : Option Default). when (not (held o)) 13) (lookup-insert keyOfDefault new (S .defaults) free), tt)))
-      (ap (withDefaults S) (remove-insert keyOfDefault new (S .defaults) free))
-
-  pub put-drop-override : (name type : Bytes) → putOverrideRefusal S name type ≡ 0 → change (change S (PutOverride name type) .1) (DropOverride name) ≡ (done, S)
-  unfolding change putOverrideRefusal dropOverrideRefusal overrideFields
-  put-drop-override name type h =
-      let new : Override = record { name = name; type = type } in
-      let z = all-none _ h in
-      let p₁₀ : 0 < 10 = omega arith in
-      let free = absent keyOfOverride (nameKey name) (S .overrides) (unmet _ 10 p₁₀ (z .1 .0)) in
-      undo (changeMade S (PutOverride name type)) (putOverrideRefusal S name type) (DropOverride name) h
-      (none-all _ (all-none _ (z .0) .0, (ap (λ (o : Option Override). when (not (held o)) 13) (lookup-insert keyOfOverride new (S .overrides) free), tt)))
-      (ap (withOverrides S) (remove-insert keyOfOverride new (S .overrides) free))
-
-  pub put-drop-relationship :
-      (source id type : Bytes) (mode : ℕ) (target : Bytes) → putRelationshipRefusal S source id type mode target ≡ 0 →
-      change (change S (PutRelationship source id type mode target) .1) (DropRelationship source id) ≡ (done, S)
-  unfolding change putRelationshipRefusal dropRelationshipRefusal relationshipFields
-  put-drop-relationship source id type mode target h =
-      let new : Relationship = record { source = source; id = id; type = type; mode = mode; target = target } in
-      let z = all-none _ h in
-      let f = all-none _ (z .0) in
-      let p₁₀ : 0 < 10 = omega arith in
-      let free = absent keyOfRelationship (relationshipKey source id) (S .relationships) (unmet _ 10 p₁₀ (z .1 .0)) in
-      undo (changeMade S (PutRelationship source id type mode target)) (putRelationshipRefusal S source id type mode target) (DropRelationship source id) h
-      (none-all _ (f .0, (f .1 .0, (ap (λ (o : Option Relationship). when (not (held o)) 13) (lookup-insert keyOfRelationship new (S .relationships) free), tt))))
-      (ap (withRelationships S) (remove-insert keyOfRelationship new (S .relationships) free))
+pub undone : (S : State) (c : Change) → IsPut c → changeRefusal S c ≡ 0 → change (change S c .1) (dropOf c) ≡ (done, S)
+unfolding change putItemRefusal dropItemRefusal putDefaultRefusal dropDefaultRefusal putOverrideRefusal dropOverrideRefusal
+    putRelationshipRefusal dropRelationshipRefusal defaultFields overrideFields relationshipFields
+undone S (PutItem name bytes) p h =
+    let new : Item = record { name = name; bytes = bytes } in
+    let own = misfits name (S .items) in
+    undo itemKind item-lawful S new own h (DropItem name)
+    (none-all _ (put-fields itemKind S new own h, (ap (λ (o : Option Item). when (not (held o)) 13) (item-found S new h), tt))) refl
+undone S (DropItem name) p h = absurd p
+undone S (PutDefault extension type) p h =
+    let new : Default = record { extension = extension; type = type } in
+    undo defaultKind default-lawful S new [] h (DropDefault extension)
+    (drop-met defaultKind default-lawful S new [] h (extensionField extension ∷ []) (all-none _ (put-fields defaultKind S new [] h) .0,
+        tt)) refl
+undone S (DropDefault extension) p h = absurd p
+undone S (PutOverride name type) p h =
+    let new : Override = record { name = name; type = type } in
+    undo overrideKind override-lawful S new [] h (DropOverride name)
+    (drop-met overrideKind override-lawful S new [] h (partField name ∷ []) (all-none _ (put-fields overrideKind S new [] h) .0, tt)) refl
+undone S (DropOverride name) p h = absurd p
+undone S (PutRelationship source id type mode target) p h =
+    let new : Relationship = record { source = source; id = id; type = type; mode = mode; target = target } in
+    let f = all-none _ (put-fields relationshipKind S new [] h) in
+    undo relationshipKind relationship-lawful S new [] h (DropRelationship source id)
+    (drop-met relationshipKind relationship-lawful S new [] h (sourceField source ∷ idField id ∷ []) (f .0, (f .1 .0, tt))) refl
+undone S (DropRelationship source id) p h = absurd p

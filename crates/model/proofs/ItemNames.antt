@@ -18,8 +18,8 @@ use Rattle.names.specs.declared.items.ItemName.{ItemName}
 use Rattle.names.specs.declared.items.ItemName.the-variants.{Named, Refused}
 use Rattle.model.specs.Sets.{Bytes, Each}
 use Rattle.model.specs.Fields.{prefixIn, suffixIn, prefixOf, suffixOf, itemField}
-use Rattle.model.specs.Package.{Item, State}
-use Rattle.model.specs.Good.{Good, fieldsOfItem}
+use Rattle.model.specs.Package.{Item, State, itemKind}
+use Rattle.model.specs.Good.{Good}
 use Rattle.model.proofs.Lists.{each-map}
 use Rattle.model.proofs.Refusals.{all-none, unmet}
 
@@ -36,11 +36,13 @@ unfolding suffixOf
 suffix-named s n x e = ap suffixIn e
 
 -- the prefix of a name that splits is a part name, n bytes of it; without a suffix it is the name itself
-pub prefix-part : (s : Bytes) (n : ℕ) (x : Suffix) → itemName s ≡ Named n x → (partName (take n s) ≡ true) × (n ≤ length s) × (x ≡ Whole → n ≡ length s)
+pub prefix-part : (s : Bytes) (n : ℕ) (x : Suffix) → itemName s ≡ Named n x →
+    (partName (take n s) ≡ true) × (n ≤ length s) × (x ≡ Whole → n ≡ length s)
 unfolding itemName
 prefix-part s n x h = go (eqb (afterLast slash s) 0) (eqb (getD (lastSegment s) 0 0) openBracket) h
   where
-    as-part : (b : Bool) (m : ℕ) (y : Suffix) → partName (take m s) ≡ b → m ≤ length s → (y ≡ Whole → m ≡ length s) → named b m y ≡ Named n x →
+    as-part : (b : Bool) (m : ℕ) (y : Suffix) → partName (take m s) ≡ b → m ≤ length s → (y ≡ Whole → m ≡ length s) →
+        named b m y ≡ Named n x →
         (partName (take n s) ≡ true) × (n ≤ length s) × (x ≡ Whole → n ≡ length s)
     as-part true m y e l w f =
         let p : m ≡ n = cc in
@@ -59,12 +61,15 @@ prefix-part s n x h = go (eqb (afterLast slash s) 0) (eqb (getD (lastSegment s) 
 
     piece : (u : Suffix) → asPiece u (folder s) ≡ Named n x → (partName (take n s) ≡ true) × (n ≤ length s) × (x ≡ Whole → n ≡ length s)
     piece Whole f = absurd (named-refused n 6 x (sym f))
-    piece (Piece k l) f = as-part (partName (take (length (folder s)) s)) (length (folder s)) (Piece k l) refl (omega (arith, length-folder, before-slash)) (piece-whole k l) (sym (ap (λ (b : Bool). named b (length (folder s)) (Piece k l)) whole-folder) ∙ f)
+    piece (Piece k l) f = as-part (partName (take (length (folder s)) s)) (length (folder s)) (Piece k l) refl
+        (omega (arith, length-folder, before-slash)) (piece-whole k l)
+        (sym (ap (λ (b : Bool). named b (length (folder s)) (Piece k l)) whole-folder) ∙ f)
       where
         whole-folder : partName (folder s) ≡ partName (take (length (folder s)) s)
         whole-folder = ap (λ (m : ℕ). partName (take m s)) (sym length-folder)
 
-    go : (a b : Bool) → unlessNoSlash a (asItem b s) ≡ Named n x → (partName (take n s) ≡ true) × (n ≤ length s) × (x ≡ Whole → n ≡ length s)
+    go : (a b : Bool) → unlessNoSlash a (asItem b s) ≡ Named n x →
+        (partName (take n s) ≡ true) × (n ≤ length s) × (x ≡ Whole → n ≡ length s)
     go true b f = absurd (named-refused n 4 x (sym f))
     go false true f = piece (suffix (lastSegment s)) f
     go false false f = as-part (partName s) (length s) Whole (ap partName (take-length s)) (omega arith) (λ e. refl) f
@@ -104,4 +109,5 @@ accepted-prefix s h =
 
 -- the prefixes of held items are part names
 pub prefixes-named : (S : State) → Good S → Each (λ (i : Item). partName (prefixOf (i .name)) ≡ true) (S .items)
-prefixes-named S g = each-map (λ (i : Item). fieldsOfItem i ≡ 0) (λ (i : Item). partName (prefixOf (i .name)) ≡ true) (S .items) (λ i h. accepted-prefix (i .name) h .0) (g .items .fielded)
+prefixes-named S g = each-map (λ (i : Item). itemKind .fields i ≡ 0) (λ (i : Item). partName (prefixOf (i .name)) ≡ true) (S .items)
+    (λ i h. accepted-prefix (i .name) h .0) (g .items .fielded)

@@ -17,7 +17,8 @@ use Rattle.output.proofs.Answering.{filled-kept}
 changed-kept : (n : ℕ) (S T : State) → (changed n S T .0 .number ≡ 0 → ⊥) → (changed n S T .1 ≡ S) × (changed n S T .0 .output ≡ [])
 changed-kept n S T h = go (eqb n 0) h
   where
-    go : (b : Bool) → (pick b (done, T) (refused n, S) .0 .number ≡ 0 → ⊥) → (pick b (done, T) (refused n, S) .1 ≡ S) × (pick b (done, T) (refused n, S) .0 .output ≡ [])
+    go : (b : Bool) → (pick b (done, T) (refused n, S) .0 .number ≡ 0 → ⊥) →
+        (pick b (done, T) (refused n, S) .1 ≡ S) × (pick b (done, T) (refused n, S) .0 .output ≡ [])
     go true k = absurd (k refl)
     go false k = (refl, refl)
 
@@ -34,13 +35,15 @@ look-kept S (Find name) h = go (eqb (askedRefusal S name) 0) _
     go false vs = refl
 look-kept S (View name) h = go (eqb (askedRefusal S name) 0) _ h
   where
-    go : (b : Bool) (o : Bytes) → (choose b (answer 0 [] o) (answer 0 [] []) .number ≡ 0 → ⊥) → choose b (answer 0 [] o) (answer 0 [] []) .output ≡ []
+    go : (b : Bool) (o : Bytes) → (choose b (answer 0 [] o) (answer 0 [] []) .number ≡ 0 → ⊥) →
+        choose b (answer 0 [] o) (answer 0 [] []) .output ≡ []
     go true o k = absurd (k refl)
     go false o k = absurd (k refl)
 look-kept S Totals h = refl
 
 -- "package and outputs stay unchanged"
-pub refusal-kept : (room : ℕ) (S : State) (c : Call) → (step room S c .0 .number ≡ 0 → ⊥) → (step room S c .1 ≡ S) × (step room S c .0 .output ≡ lent c)
+pub refusal-kept : (room : ℕ) (S : State) (c : Call) → (step room S c .0 .number ≡ 0 → ⊥) →
+    (step room S c .1 ≡ S) × (step room S c .0 .output ≡ lent c)
 refusal-kept room S (Start C) h = changed-kept (startRefusal room C) S (empty C) h
 refusal-kept room S (Looks q) h = (refl, look-kept S q h)
 refusal-kept room S (Changes c) h = change-kept S c h
@@ -53,6 +56,7 @@ output-length n out (Refused k) = refl
 output-length n out (Text t more) = go (leb (length t) (length out)) refl
   where
     go : (b : Bool) → leb (length t) (length out) ≡ b →
-        length (choose b (answer 0 (length t ∷ more) (t ++ drop (length t) out)) (answer 3 (length t ∷ replicate (n - 1) 0) out) .output) ≡ length out
+        length (choose b (answer 0 (length t ∷ more) (t ++ drop (length t) out)) (answer 3 (length t ∷ replicate (n - 1) 0) out) .output)
+            ≡ length out
     go true e = simp (length-append, length-drop) (omega (arith, leb-true (length t) (length out) e))
     go false e = refl

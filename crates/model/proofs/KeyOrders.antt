@@ -26,7 +26,8 @@ pub key-greater : (a b : Key) → keyOrder a b ≡ Greater → keyOrder b a ≡ 
 unfolding keyOrder thenBy
 key-greater a b h = go (order (a .0) (b .0)) refl h
   where
-    go : (o : Order) → order (a .0) (b .0) ≡ o → thenBy o (order (a .1) (b .1)) ≡ Greater → thenBy (order (b .0) (a .0)) (order (b .1) (a .1)) ≡ Less
+    go : (o : Order) → order (a .0) (b .0) ≡ o → thenBy o (order (a .1) (b .1)) ≡ Greater →
+        thenBy (order (b .0) (a .0)) (order (b .1) (a .1)) ≡ Less
     go Less e h = absurd (less-greater h)
     go Equal e h = rw (order-equal (a .0) (b .0) e, order-refl (b .0)) (order-greater (a .1) (b .1) h)
     go Greater e h = rw (order-greater (a .0) (b .0) e)
@@ -36,13 +37,15 @@ unfolding keyOrder thenBy
 key-trans a b c h k = go (order (a .0) (b .0)) refl (order (b .0) (c .0)) refl h k
   where
     go :
-        (o : Order) → order (a .0) (b .0) ≡ o → (o′ : Order) → order (b .0) (c .0) ≡ o′ → thenBy o (order (a .1) (b .1)) ≡ Less → thenBy o′ (order (b .1) (c .1)) ≡ Less →
+        (o : Order) → order (a .0) (b .0) ≡ o → (o′ : Order) → order (b .0) (c .0) ≡ o′ → thenBy o (order (a .1) (b .1)) ≡ Less →
+            thenBy o′ (order (b .1) (c .1)) ≡ Less →
         thenBy (order (a .0) (c .0)) (order (a .1) (c .1)) ≡ Less
     go Less e Less f h k = rw (order-trans (a .0) (b .0) (c .0) e f)
     go Less e Equal f h k = rw (← order-equal (b .0) (c .0) f, e)
     go Less e Greater f h k = absurd (less-greater (sym k))
     go Equal e Less f h k = rw (order-equal (a .0) (b .0) e, f)
-    go Equal e Equal f h k = rw (order-equal (a .0) (b .0) e, order-equal (b .0) (c .0) f, order-refl (c .0)) (order-trans (a .1) (b .1) (c .1) h k)
+    go Equal e Equal f h k = rw (order-equal (a .0) (b .0) e, order-equal (b .0) (c .0) f, order-refl (c .0))
+        (order-trans (a .1) (b .1) (c .1) h k)
     go Equal e Greater f h k = absurd (less-greater (sym k))
     go Greater e o′ f h k = absurd (less-greater (sym h))
 
@@ -135,4 +138,5 @@ begins-less a b h n = go (order (a .0) (b .0)) refl (is-less (keyOrder a b) h)
 pub goes-on-less : (a b : Key) → before a b ≡ true → a .0 ≡ b .0 → order (a .1) (b .1) ≡ Less
 unfolding keyOrder thenBy
 goes-on-less a b h e =
-    sym (ap (λ (o : Order). thenBy o (order (a .1) (b .1))) (ap (λ (s : Bytes). order s (b .0)) e ∙ order-refl (b .0))) ∙ is-less (keyOrder a b) h
+    sym (ap (λ (o : Order). thenBy o (order (a .1) (b .1))) (ap (λ (s : Bytes). order s (b .0)) e ∙ order-refl (b .0)))
+        ∙ is-less (keyOrder a b) h

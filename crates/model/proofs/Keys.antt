@@ -36,7 +36,8 @@ order-same [] (y ∷ b) = refl
 order-same (x ∷ a) [] = refl
 order-same (x ∷ a) (y ∷ b) = go (ltb x y) refl (ltb y x) refl (order-same a b)
   where
-    go : (p : Bool) → ltb x y ≡ p → (q : Bool) → ltb y x ≡ q → isEqual (order a b) ≡ same a b → isEqual (cond p Less (cond q Greater (order a b))) ≡ eqb x y && same a b
+    go : (p : Bool) → ltb x y ≡ p → (q : Bool) → ltb y x ≡ q → isEqual (order a b) ≡ same a b →
+        isEqual (cond p Less (cond q Greater (order a b))) ≡ eqb x y && same a b
     go true e q f h = let l : x < y = ltb-true x y e in rw (ne-eqb x y (omega arith))
     go false e true f h = let l : y < x = ltb-true y x f in rw (ne-eqb x y (omega arith))
     go false e false f h =
@@ -57,10 +58,13 @@ pub same-name-key : (s t : Bytes) → sameKey (nameKey s) (nameKey t) ≡ equiva
 unfolding equivalent same
 same-name-key s t = same-key (nameKey s) (nameKey t) ∙ and-right-true (same (fold s) (fold t))
 
-pub same-item-key : (s t : Bytes) → sameKey (itemKey s) (itemKey t) ≡ equivalent (prefixOf s) (prefixOf t) && eqb (rank (suffixOf s)) (rank (suffixOf t))
+pub same-item-key : (s t : Bytes) → sameKey (itemKey s) (itemKey t)
+    ≡ equivalent (prefixOf s) (prefixOf t) && eqb (rank (suffixOf s)) (rank (suffixOf t))
 unfolding equivalent same
 same-item-key s t =
-    same-key (itemKey s) (itemKey t) ∙ ap (λ (b : Bool). same (fold (prefixOf s)) (fold (prefixOf t)) && b) (and-right-true (eqb (rank (suffixOf s)) (rank (suffixOf t))))
+    same-key (itemKey s) (itemKey t)
+        ∙ ap (λ (b : Bool). same (fold (prefixOf s)) (fold (prefixOf t)) && b)
+        (and-right-true (eqb (rank (suffixOf s)) (rank (suffixOf t))))
 
 pub same-relationship-key : (s i t j : Bytes) → sameKey (relationshipKey s i) (relationshipKey t j) ≡ equivalent s t && same i j
 unfolding equivalent
@@ -76,7 +80,8 @@ name-key-order s t = go (order (fold s) (fold t))
     go Equal = refl
     go Greater = refl
 
-pub item-key-order : (s t : Bytes) → keyOrder (itemKey s) (itemKey t) ≡ thenBy (foldedOrder (prefixOf s) (prefixOf t)) (numberOrder (rank (suffixOf s)) (rank (suffixOf t)))
+pub item-key-order : (s t : Bytes) → keyOrder (itemKey s) (itemKey t)
+    ≡ thenBy (foldedOrder (prefixOf s) (prefixOf t)) (numberOrder (rank (suffixOf s)) (rank (suffixOf t)))
 unfolding keyOrder foldedOrder order
 item-key-order s t = refl
 

@@ -12,7 +12,9 @@ pub mod Numbers
 pub mod ItemNames
 pub mod FieldSizes
 pub mod Items
+pub mod KindLaws
 pub mod Charges
+pub mod Puts
 pub mod Steps
 pub mod Kept
 pub mod CallLists

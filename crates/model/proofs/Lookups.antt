@@ -4,17 +4,11 @@ use Prim.Native.Nat.{ℕ, _+_}
 use mathlib.Core.Path.{_≡_, refl, ap, ap₂, sym, _∙_, subst}
 use mathlib.Core.Bool.{Bool, true, false, cond, true≢false}
 use mathlib.Core.List.{List, [], _∷_}
-use mathlib.Core.Option.{none, some}
+use mathlib.Core.Option.{none, some, Option·none-ne-some, Option·some-injective}
 use native.Mathlib.Omega.{arith}
 use Rattle.model.specs.Sets.{Key, before, sameKey, sumOf, lookup, insert, remove, Each, Sorted}
 use Rattle.model.proofs.Lists.{each-map}
 use Rattle.model.proofs.KeyOrders.{same-before, before-trans, before-turn, same-key-refl, before-not-same, same-key-trans}
-
-pub none-some : {E : Type 0} (x : E) → none ≡ some x → ⊥
-none-some x e = let z : _≡_ {A = ℕ} 0 1 = cc in omega arith
-
-pub some-eq : {E : Type 0} (x y : E) → some x ≡ some y → x ≡ y
-some-eq x y e = cc
 
 module _ {E : Type 0} (key : E → Key) where
   -- another key is found as before
@@ -55,10 +49,12 @@ module _ {E : Type 0} (key : E → Key) where
   lookup-removed k [] s = refl
   lookup-removed k (x ∷ xs) s = go (sameKey k (key x)) refl (lookup-removed k xs (s .1))
     where
-      go : (b : Bool) → sameKey k (key x) ≡ b → lookup key k (remove key k xs) ≡ none → lookup key k (cond b xs (x ∷ remove key k xs)) ≡ none
+      go : (b : Bool) → sameKey k (key x) ≡ b → lookup key k (remove key k xs) ≡ none → lookup key k (cond b xs (x ∷ remove key k xs))
+          ≡ none
       go true e h =
           past-none k xs
-          (each-map (λ (y : E). before (key x) (key y) ≡ true) (λ (y : E). before k (key y) ≡ true) xs (λ y l. same-before k (key x) (key y) e l) (s .0))
+          (each-map (λ (y : E). before (key x) (key y) ≡ true) (λ (y : E). before k (key y) ≡ true) xs
+              (λ y l. same-before k (key x) (key y) e l) (s .0))
       go false e h = rw e h
 
   lookup-head : (k : Key) (x : E) (xs : List E) → sameKey k (key x) ≡ true → lookup key k (x ∷ xs) ≡ some x
@@ -73,17 +69,19 @@ module _ {E : Type 0} (key : E → Key) where
   pub sorted-unique : (xs ys : List E) → Sorted key xs → Sorted key ys → ((k : Key) → lookup key k xs ≡ lookup key k ys) → xs ≡ ys
   unfolding lookup
   sorted-unique [] [] s t h = refl
-  sorted-unique [] (y ∷ ys) s t h = absurd (none-some y (h (key y) ∙ lookup-head (key y) y ys (same-key-refl (key y))))
-  sorted-unique (x ∷ xs) [] s t h = absurd (none-some x (sym (h (key x)) ∙ lookup-head (key x) x xs (same-key-refl (key x))))
+  sorted-unique [] (y ∷ ys) s t h = absurd (Option·none-ne-some y (h (key y) ∙ lookup-head (key y) y ys (same-key-refl (key y))))
+  sorted-unique (x ∷ xs) [] s t h = absurd (Option·none-ne-some x (sym (h (key x)) ∙ lookup-head (key x) x xs (same-key-refl (key x))))
   sorted-unique (x ∷ xs) (y ∷ ys) s t h = ap₂ _∷_ heads (sorted-unique xs ys (s .1) (t .1) tails)
     where
       -- a head that stands before the other list is not found there
-      not-before : (a b : E) (aa bs : List E) → Sorted key (b ∷ bs) → ((k : Key) → lookup key k (a ∷ aa) ≡ lookup key k (b ∷ bs)) → before (key a) (key b) ≡ true → ⊥
+      not-before : (a b : E) (aa bs : List E) → Sorted key (b ∷ bs) → ((k : Key) → lookup key k (a ∷ aa) ≡ lookup key k (b ∷ bs)) →
+          before (key a) (key b) ≡ true → ⊥
       not-before a b aa bs s h l =
-          none-some a
+          Option·none-ne-some a
           (sym
           (past-none (key a) (b ∷ bs)
-          (l, each-map (λ (z : E). before (key b) (key z) ≡ true) (λ (z : E). before (key a) (key z) ≡ true) bs (λ z m. before-trans (key a) (key b) (key z) l m) (s .0)))
+          (l, each-map (λ (z : E). before (key b) (key z) ≡ true) (λ (z : E). before (key a) (key z) ≡ true) bs
+              (λ z m. before-trans (key a) (key b) (key z) l m) (s .0)))
           ∙ sym (h (key a)) ∙ lookup-head (key a) a aa (same-key-refl (key a)))
 
       one-key : (b c : Bool) → before (key x) (key y) ≡ b → sameKey (key x) (key y) ≡ c → sameKey (key x) (key y) ≡ true
@@ -93,15 +91,17 @@ module _ {E : Type 0} (key : E → Key) where
 
       heads : x ≡ y
       heads =
-          some-eq x y
-          (sym (lookup-head (key x) x xs (same-key-refl (key x))) ∙ h (key x) ∙ lookup-head (key x) y ys (one-key (before (key x) (key y)) (sameKey (key x) (key y)) refl refl))
+          Option·some-injective x y
+          (sym (lookup-head (key x) x xs (same-key-refl (key x))) ∙ h (key x)
+              ∙ lookup-head (key x) y ys (one-key (before (key x) (key y)) (sameKey (key x) (key y)) refl refl))
 
       tails : (k : Key) → lookup key k xs ≡ lookup key k ys
       tails k = go (sameKey k (key x)) refl
         where
           go : (b : Bool) → sameKey k (key x) ≡ b → lookup key k xs ≡ lookup key k ys
           go true e =
-              past-none k xs (each-map (λ (z : E). before (key x) (key z) ≡ true) (λ (z : E). before k (key z) ≡ true) xs (λ z l. same-before k (key x) (key z) e l) (s .0))
+              past-none k xs (each-map (λ (z : E). before (key x) (key z) ≡ true) (λ (z : E). before k (key z) ≡ true) xs
+                  (λ z l. same-before k (key x) (key z) e l) (s .0))
               ∙ sym
               (past-none k ys
               (each-map (λ (z : E). before (key y) (key z) ≡ true) (λ (z : E). before k (key z) ≡ true) ys
@@ -111,21 +111,22 @@ module _ {E : Type 0} (key : E → Key) where
   -- the entry that is found has the key
   pub lookup-key : (k : Key) (xs : List E) (e : E) → lookup key k xs ≡ some e → sameKey k (key e) ≡ true
   unfolding lookup
-  lookup-key k [] e h = absurd (none-some e h)
+  lookup-key k [] e h = absurd (Option·none-ne-some e h)
   lookup-key k (x ∷ xs) e h = go (sameKey k (key x)) refl h (lookup-key k xs e)
     where
-      go : (b : Bool) → sameKey k (key x) ≡ b → cond b (some x) (lookup key k xs) ≡ some e → (lookup key k xs ≡ some e → sameKey k (key e) ≡ true) → sameKey k (key e) ≡ true
-      go true f h ih = let m : x ≡ e = some-eq x e h in ap (λ (y : E). sameKey k (key y)) (sym m) ∙ f
+      go : (b : Bool) → sameKey k (key x) ≡ b → cond b (some x) (lookup key k xs) ≡ some e →
+          (lookup key k xs ≡ some e → sameKey k (key e) ≡ true) → sameKey k (key e) ≡ true
+      go true f h ih = let m : x ≡ e = Option·some-injective x e h in ap (λ (y : E). sameKey k (key y)) (sym m) ∙ f
       go false f h ih = ih h
 
   -- what holds of every entry holds of the one that is found
   pub lookup-each : (P : E → Type 0) (k : Key) (xs : List E) (e : E) → Each P xs → lookup key k xs ≡ some e → P e
   unfolding lookup
-  lookup-each P k [] e p h = absurd (none-some e h)
+  lookup-each P k [] e p h = absurd (Option·none-ne-some e h)
   lookup-each P k (x ∷ xs) e p h = go (sameKey k (key x)) h (lookup-each P k xs e (p .1))
     where
       go : (b : Bool) → cond b (some x) (lookup key k xs) ≡ some e → (lookup key k xs ≡ some e → P e) → P e
-      go true h ih = subst P (some-eq x e h) (p .0)
+      go true h ih = subst P (Option·some-injective x e h) (p .0)
       go false h ih = ih h
 
   -- what a removal takes away
@@ -135,7 +136,8 @@ module _ {E : Type 0} (key : E → Key) where
   sum-removed f k (x ∷ xs) e h = go (sameKey k (key x)) h (sum-removed f k xs e)
     where
       go :
-          (b : Bool) → cond b (some x) (lookup key k xs) ≡ some e → (lookup key k xs ≡ some e → sumOf f (remove key k xs) + f e ≡ sumOf f xs) →
+          (b : Bool) → cond b (some x) (lookup key k xs) ≡ some e →
+              (lookup key k xs ≡ some e → sumOf f (remove key k xs) + f e ≡ sumOf f xs) →
           sumOf f (cond b xs (x ∷ remove key k xs)) + f e ≡ f x + sumOf f xs
       go true l h = let m : x ≡ e = cc in omega (arith, ap f m)
       go false l h = omega (arith, h l)

@@ -13,12 +13,12 @@ use Rattle.base.proofs.Bools.{and-left, and-right, and-true}
 use Rattle.chars.proofs.Equivalence.{equivalent-fold, fold-equivalent}
 use Rattle.names.specs.declared.items.Suffix.{Suffix}
 use Rattle.names.specs.declared.items.Suffix.the-variants.{Whole, Piece}
-use Rattle.model.specs.Sets.{Bytes, before, sameKey, any, Each, Pairs, Sorted}
+use Rattle.model.specs.Sets.{Bytes, before, sameKey, any, Each, AllPairs, Sorted}
 use Rattle.model.specs.Places.{place}
 use Rattle.model.specs.Fields.{prefixOf, suffixOf}
 use Rattle.model.specs.Package.{Item, rank, itemKey, keyOfItem, group, disagrees}
 use Rattle.model.specs.Good.{Beside}
-use Rattle.model.proofs.Lists.{each-both, each-take, pairs-map, pairs-take, pairs-drop, pairs-both, pairs-each, any-last, any-head, any-those, any-append, last-of-take, head-of-drop}
+use Rattle.model.proofs.Lists.{each-both, each-take, pairs-map, pairs-take, pairs-drop, pairs-both, pairs-each, any-last, any-head, any-filter, any-append, last-of-take, head-of-drop}
 use Rattle.model.proofs.Walks.{first-le, first-fails, first-rest}
 use Rattle.model.proofs.KeyOrders.{before-turn, between, goes-on-less}
 use Rattle.model.proofs.Keys.{number-less}
@@ -61,18 +61,22 @@ clashing name i = alike (prefixOf name) i && disagrees (suffixOf name) (suffixOf
 
 module _ (name : Bytes) where
   -- the ranks of two items in order whose keys begin alike
-  ranks : (s t : Bytes) → before (itemKey s) (itemKey t) ≡ true → fold (prefixOf s) ≡ fold (prefixOf t) → rank (suffixOf s) < rank (suffixOf t)
+  ranks : (s t : Bytes) → before (itemKey s) (itemKey t) ≡ true → fold (prefixOf s) ≡ fold (prefixOf t) →
+      rank (suffixOf s) < rank (suffixOf t)
   unfolding order
   ranks s t l e = number-less (rank (suffixOf s)) (rank (suffixOf t)) (goes-on-less (itemKey s) (itemKey t) l e)
 
-  clashes : (i : Item) → fold (prefixOf (i .name)) ≡ fold (prefixOf name) → disagrees (suffixOf name) (suffixOf (i .name)) ≡ true → clashing name i ≡ true
-  clashes i e d = and-true (alike (prefixOf name) i) (disagrees (suffixOf name) (suffixOf (i .name))) (fold-equivalent (prefixOf (i .name)) (prefixOf name) e) d
+  clashes : (i : Item) → fold (prefixOf (i .name)) ≡ fold (prefixOf name) → disagrees (suffixOf name) (suffixOf (i .name)) ≡ true →
+      clashing name i ≡ true
+  clashes i e d = and-true (alike (prefixOf name) i) (disagrees (suffixOf name) (suffixOf (i .name)))
+      (fold-equivalent (prefixOf (i .name)) (prefixOf name) e) d
 
   module _ (i j : Item) (l : before (keyOfItem i) (keyOfItem j) ≡ true) where
     -- both before the new key: where i clashes, so does j
     clashing-below : Beside i j → before (keyOfItem j) (itemKey name) ≡ true → clashing name i ≡ true → clashing name j ≡ true
     clashing-below r k c =
-        let i-n : fold (prefixOf (i .name)) ≡ fold (prefixOf name) = equivalent-fold (prefixOf (i .name)) (prefixOf name) (and-left (alike (prefixOf name) i) _ c) in
+        let i-n : fold (prefixOf (i .name)) ≡ fold (prefixOf name) =
+            equivalent-fold (prefixOf (i .name)) (prefixOf name) (and-left (alike (prefixOf name) i) _ c) in
         let i-j : fold (prefixOf (i .name)) ≡ fold (prefixOf (j .name)) = between (keyOfItem i) (keyOfItem j) (itemKey name) l k i-n in
         clashes j (sym i-j ∙ i-n)
         (disagrees-behind (suffixOf name) (suffixOf (i .name)) (suffixOf (j .name)) (ranks (i .name) (j .name) l i-j)
@@ -81,13 +85,15 @@ module _ (name : Bytes) where
     -- both behind it: where j clashes, so does i
     clashing-above : before (itemKey name) (keyOfItem i) ≡ true → clashing name j ≡ true → clashing name i ≡ true
     clashing-above k c =
-        let j-n : fold (prefixOf (j .name)) ≡ fold (prefixOf name) = equivalent-fold (prefixOf (j .name)) (prefixOf name) (and-left (alike (prefixOf name) j) _ c) in
+        let j-n : fold (prefixOf (j .name)) ≡ fold (prefixOf name) =
+            equivalent-fold (prefixOf (j .name)) (prefixOf name) (and-left (alike (prefixOf name) j) _ c) in
         let n-i : fold (prefixOf name) ≡ fold (prefixOf (i .name)) = between (itemKey name) (keyOfItem i) (keyOfItem j) k l (sym j-n) in
         clashes i (sym n-i)
-        (disagrees-between (suffixOf name) (suffixOf (i .name)) (suffixOf (j .name)) (ranks name (i .name) k n-i) (ranks (i .name) (j .name) l (sym n-i ∙ sym j-n))
+        (disagrees-between (suffixOf name) (suffixOf (i .name)) (suffixOf (j .name)) (ranks name (i .name) k n-i)
+            (ranks (i .name) (j .name) l (sym n-i ∙ sym j-n))
         (and-right (alike (prefixOf name) j) _ c))
 
-  module _ (xs : List Item) (s : Sorted keyOfItem xs) (b : Pairs Beside xs) (free : Absent keyOfItem (itemKey name) xs) (d : Item) where
+  module _ (xs : List Item) (s : Sorted keyOfItem xs) (b : AllPairs Beside xs) (free : Absent keyOfItem (itemKey name) xs) (d : Item) where
     n : ℕ
     n = place keyOfItem (itemKey name) xs
 
@@ -107,7 +113,8 @@ module _ (name : Bytes) where
     below : Each Below (take n xs)
     unfolding n
     below =
-        each-both (λ (i : Item). before (itemKey name) (keyOfItem i) ≡ false) (λ (i : Item). sameKey (itemKey name) (keyOfItem i) ≡ false) Below (take n xs)
+        each-both (λ (i : Item). before (itemKey name) (keyOfItem i) ≡ false) (λ (i : Item). sameKey (itemKey name) (keyOfItem i)
+            ≡ false) Below (take n xs)
         (λ i l k. before-turn (itemKey name) (keyOfItem i) l k) (first-fails (λ (i : Item). before (itemKey name) (keyOfItem i)) xs)
         (each-take (λ (i : Item). sameKey (itemKey name) (keyOfItem i) ≡ false) n xs free)
 
@@ -118,21 +125,26 @@ module _ (name : Bytes) where
     lower : any (clashing name) (take n xs) ≡ (ltb 0 n && clashing name (getD xs (n - 1) d))
     lower =
         any-last (clashing name) (take n xs) d
-        (pairs-map (λ (i j : Item). (Ordered i j × Beside i j) × (Below i × Below j)) (λ (i j : Item). clashing name i ≡ true → clashing name j ≡ true) (take n xs)
+        (pairs-map (λ (i j : Item). (Ordered i j × Beside i j) × (Below i × Below j)) (λ (i j : Item). clashing name i ≡ true →
+            clashing name j ≡ true) (take n xs)
         (λ i j h c. clashing-below i j (h .0 .0) (h .0 .1) (h .1 .1) c)
         (pairs-both (λ (i j : Item). Ordered i j × Beside i j) (λ (i j : Item). Below i × Below j) (take n xs)
-        (pairs-both Ordered Beside (take n xs) (pairs-take Ordered n xs s) (pairs-take Beside n xs b)) (pairs-each Below (take n xs) below)))
+        (pairs-both Ordered Beside (take n xs) (pairs-take Ordered n xs s) (pairs-take Beside n xs b))
+            (pairs-each Below (take n xs) below)))
         ∙ last-of-take (clashing name) n xs d n-le
 
     upper : any (clashing name) (drop n xs) ≡ (ltb n (length xs) && clashing name (getD xs n d))
     upper =
         any-head (clashing name) (drop n xs) d
-        (pairs-map (λ (i j : Item). Ordered i j × (Above i × Above j)) (λ (i j : Item). clashing name j ≡ true → clashing name i ≡ true) (drop n xs)
+        (pairs-map (λ (i j : Item). Ordered i j × (Above i × Above j)) (λ (i j : Item). clashing name j ≡ true → clashing name i ≡ true)
+            (drop n xs)
         (λ i j h c. clashing-above i j (h .0) (h .1 .0) c)
-        (pairs-both Ordered (λ (i j : Item). Above i × Above j) (drop n xs) (pairs-drop Ordered n xs s) (pairs-each Above (drop n xs) above)))
+        (pairs-both Ordered (λ (i j : Item). Above i × Above j) (drop n xs) (pairs-drop Ordered n xs s)
+            (pairs-each Above (drop n xs) above)))
         ∙ head-of-drop (clashing name) n xs d
 
-    -- where no item has the key of `name`: its suffix disagrees with some item of its group if and only if it disagrees with one that stands
+    -- where no item has the key of `name`: its suffix disagrees with some item of its group if and only if it disagrees with one that
+    -- stands
     -- directly before or behind its place
     pub disagrees-neighbours :
         any (λ (i : Item). disagrees (suffixOf name) (suffixOf (i .name))) (group (prefixOf name) xs)
@@ -140,7 +152,7 @@ module _ (name : Bytes) where
         || ltb (place keyOfItem (itemKey name) xs) (length xs) && clashing name (getD xs (place keyOfItem (itemKey name) xs) d))
     unfolding group n
     disagrees-neighbours =
-        any-those (λ (i : Item). disagrees (suffixOf name) (suffixOf (i .name))) (alike (prefixOf name)) xs
+        any-filter (λ (i : Item). disagrees (suffixOf name) (suffixOf (i .name))) (alike (prefixOf name)) xs
         ∙ ap (any (clashing name)) (sym (take-append-drop n xs))
         ∙ any-append (clashing name) (take n xs) (drop n xs)
         ∙ ap₂ _||_ lower upper

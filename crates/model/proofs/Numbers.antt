@@ -17,10 +17,11 @@ use Rattle.names.specs.declared.items.Suffix.{Suffix}
 use Rattle.names.specs.declared.items.Suffix.the-variants.{Whole, Piece}
 use Rattle.names.specs.declared.items.ItemName.{ItemName}
 use Rattle.targets.specs.Targets.{internal, resolvePath, sourceRefusal, internalRefusal, targetRefusal}
-use Rattle.model.specs.Sets.{Bytes, held, any, lookup}
-use Rattle.model.specs.Fields.{when, first, prefixOf, suffixOf, askedField, itemField, partField, sourceField, idField, packageField, targetField, defaultFields, overrideFields, relationshipFields}
-use Rattle.model.specs.Package.{Item, State, itemLimit, defaultLimit, overrideLimit, relationshipLimit, itemKey, nameKey, relationshipKey, keyOfItem, keyOfDefault, keyOfOverride, keyOfRelationship, group, disagrees, grows, itemAt}
-use Rattle.model.specs.Calls.{Change, PutItem, DropItem, PutDefault, DropDefault, PutOverride, DropOverride, PutRelationship, DropRelationship, Numbered, noRoom, clash, putItemRefusal, dropItemRefusal, putDefaultRefusal, dropDefaultRefusal, putOverrideRefusal, dropOverrideRefusal, putRelationshipRefusal, dropRelationshipRefusal, changeRefusal, askedRefusal}
+use Rattle.model.specs.Sets.{Bytes, Key, held, any, lookup, Each}
+use Rattle.model.specs.Fields.{when, first, prefixOf, suffixOf, askedField, itemField, partField, extensionField, sourceField, idField, packageField, targetField, defaultFields, overrideFields, relationshipFields}
+use Rattle.model.specs.Package.{Item, Default, Override, Relationship, State, Kind, itemKind, defaultKind, overrideKind, relationshipKind, itemKey, nameKey, relationshipKey, keyOfItem, group, disagrees, grows, itemAt}
+use Rattle.model.specs.Calls.{Change, PutItem, DropItem, PutDefault, DropDefault, PutOverride, DropOverride, PutRelationship, DropRelationship, Numbered, noRoom, putRefusal, dropRefusal, misfits, clash, changeRefusal, askedRefusal, putItemRefusal, putDefaultRefusal, putOverrideRefusal, putRelationshipRefusal, dropItemRefusal, dropDefaultRefusal, dropOverrideRefusal, dropRelationshipRefusal}
+use Rattle.model.proofs.Lists.{each-append}
 
 pub numbered : (n : ℕ) → 2 ≤ n → n ≤ 16 → Numbered n
 numbered n h q = (q, λ e. omega arith)
@@ -35,22 +36,10 @@ cond-numbered false m n h k = k
 pub when-numbered : (b : Bool) (n : ℕ) → 2 ≤ n → n ≤ 16 → Numbered (when b n)
 when-numbered b n h q = cond-numbered b n 0 (numbered n h q) zero-numbered
 
-pub first-numbered : (n : ℕ) (ns : List ℕ) → Numbered n → Numbered (first ns) → Numbered (first (n ∷ ns))
+pub all-numbered : (ns : List ℕ) → Each (λ (n : ℕ). Numbered n) ns → Numbered (first ns)
 unfolding first
-first-numbered n ns h k = cond-numbered (eqb n 0) (first ns) n k h
-
-nil-numbered : Numbered (first [])
-unfolding first
-nil-numbered = zero-numbered
-
-pub one-numbered : (n : ℕ) → Numbered n → Numbered (first (n ∷ []))
-one-numbered n h = first-numbered n [] h nil-numbered
-
-pub two-numbered : (m n : ℕ) → Numbered m → Numbered n → Numbered (first (m ∷ n ∷ []))
-two-numbered m n h k = first-numbered m (n ∷ []) h (one-numbered n k)
-
-pub three-numbered : (l m n : ℕ) → Numbered l → Numbered m → Numbered n → Numbered (first (l ∷ m ∷ n ∷ []))
-three-numbered l m n g h k = first-numbered l (m ∷ n ∷ []) g (two-numbered m n h k)
+all-numbered [] h = zero-numbered
+all-numbered (n ∷ ns) h = cond-numbered (eqb n 0) (first ns) n (all-numbered ns (h .1)) (h .0)
 
 -- an item name is refused by 4 or 6
 named-numbered : (b : Bool) (n : ℕ) (x : Suffix) → Numbered (itemRefusal (named b n x))
@@ -77,7 +66,7 @@ asked-field-numbered s =
 
 item-field-numbered : (s : Bytes) → Numbered (itemField s)
 unfolding itemField
-item-field-numbered s = two-numbered (askedField s) (when (reserved (prefixOf s)) 5) (asked-field-numbered s) (when-numbered (reserved (prefixOf s)) 5 (omega arith) (omega arith))
+item-field-numbered s = all-numbered _ (asked-field-numbered s, (when-numbered (reserved (prefixOf s)) 5 (omega arith) (omega arith), tt))
 
 pub part-field-numbered : (s : Bytes) → Numbered (partField s)
 part-field-numbered s = when-numbered (not (partName s)) 4 (omega arith) (omega arith)
@@ -96,7 +85,8 @@ unfolding targetRefusal internalRefusal
 target-field-numbered m s t =
     let nine : Numbered 9 = numbered 9 (omega arith) (omega arith) in
     cond-numbered (eqb m 0) (internalRefusal s t) (cond (iri t) 0 9)
-    (cond-numbered (internal t && partName (resolvePath s t)) (cond (reserved (resolvePath s t)) 5 0) 9 (reserved-numbered (resolvePath s t)) nine)
+    (cond-numbered (internal t && partName (resolvePath s t)) (cond (reserved (resolvePath s t)) 5 0) 9
+        (reserved-numbered (resolvePath s t)) nine)
     (cond-numbered (iri t) 0 9 zero-numbered nine)
 
 -- the tests that stand in several calls
@@ -115,40 +105,62 @@ thirteen o = when-numbered (not (held o)) 13 (omega arith) (omega arith)
 fifteen : (limit count added : ℕ) (S : State) → Numbered (when (noRoom limit count added S) 15)
 fifteen limit count added S = when-numbered (noRoom limit count added S) 15 (omega arith) (omega arith)
 
+misfits-numbered : (s : Bytes) (is : List Item) → Each (λ (n : ℕ). Numbered n) (misfits s is)
+misfits-numbered s is =
+    (when-numbered (any (λ (i : Item). disagrees (suffixOf s) (suffixOf (i .name))) (group (prefixOf s) is)) 12 (omega arith) (omega arith),
+    (when-numbered (any (λ (i : Item). grows (prefixOf s) (prefixOf (i .name))) is) 11 (omega arith) (omega arith), tt))
+
 pub clash-numbered : (s : Bytes) (is : List Item) → Numbered (clash s is)
 unfolding clash
-clash-numbered s is =
-    three-numbered _ _ _ (ten (lookup keyOfItem (itemKey s) is))
-    (when-numbered (any (λ (i : Item). disagrees (suffixOf s) (suffixOf (i .name))) (group (prefixOf s) is)) 12 (omega arith) (omega arith))
-    (when-numbered (any (λ (i : Item). grows (prefixOf s) (prefixOf (i .name))) is) 11 (omega arith) (omega arith))
+clash-numbered s is = all-numbered _ (ten (lookup keyOfItem (itemKey s) is), misfits-numbered s is)
 
 pub asked-numbered : (S : State) (s : Bytes) → Numbered (askedRefusal S s)
 unfolding askedRefusal
-asked-numbered S s = two-numbered _ _ (asked-field-numbered s) (thirteen (itemAt s (S .items)))
+asked-numbered S s = all-numbered _ (asked-field-numbered s, (thirteen (itemAt s (S .items)), tt))
+
+-- a put and a drop, whichever the kind
+module _ {E : Type 0} (kind : Kind E) (S : State) where
+  put-numbered : (e : E) (own : List ℕ) → Numbered (kind .fields e) → Each (λ (n : ℕ). Numbered n) own → Numbered (putRefusal kind S e own)
+  put-numbered e own f o =
+      all-numbered _ (f, (ten (lookup (kind .key) (kind .key e) (kind .entries S)), each-append (λ (n : ℕ). Numbered n) own _ o
+      (fifteen (kind .limit) (length (kind .entries S)) (kind .charge e) S, tt)))
+
+  drop-numbered : (fields : List ℕ) (k : Key) → Each (λ (n : ℕ). Numbered n) fields → Numbered (dropRefusal kind S fields k)
+  drop-numbered fields k f =
+      all-numbered _ (each-append (λ (n : ℕ). Numbered n) fields _ f (thirteen (lookup (kind .key) k (kind .entries S)), tt))
+
+default-numbered : (d : Default) → Numbered (defaultKind .fields d)
+unfolding defaultFields
+default-numbered d = all-numbered _ (seven (not (extension (d .extension))), (seven (not (mediaType (d .type))), tt))
+
+override-numbered : (o : Override) → Numbered (overrideKind .fields o)
+unfolding overrideFields
+override-numbered o = all-numbered _ (part-field-numbered (o .name), (seven (not (mediaType (o .type))), tt))
+
+relationship-numbered : (r : Relationship) → Numbered (relationshipKind .fields r)
+unfolding relationshipFields
+relationship-numbered r =
+    all-numbered _ (source-field-numbered (r .source), (eight (not (identifier (r .id))), (eight (not (packageIri (r .type))),
+    (eight (not (leb (r .mode) 1)), (target-field-numbered (r .mode) (r .source) (r .target), tt)))))
 
 pub change-numbered : (S : State) (c : Change) → Numbered (changeRefusal S c)
-unfolding putItemRefusal dropItemRefusal putDefaultRefusal dropDefaultRefusal putOverrideRefusal dropOverrideRefusal putRelationshipRefusal dropRelationshipRefusal defaultFields overrideFields relationshipFields
+unfolding putItemRefusal dropItemRefusal putDefaultRefusal dropDefaultRefusal putOverrideRefusal dropOverrideRefusal
+    putRelationshipRefusal dropRelationshipRefusal
 change-numbered S (PutItem s x) =
-    three-numbered _ _ _ (item-field-numbered s) (clash-numbered s (S .items)) (fifteen itemLimit (length (S .items)) (length s + length x) S)
-change-numbered S (DropItem s) = two-numbered _ _ (item-field-numbered s) (thirteen (itemAt s (S .items)))
-change-numbered S (PutDefault s v) =
-    three-numbered _ _ _ (two-numbered _ _ (seven (not (extension s))) (seven (not (mediaType v)))) (ten (lookup keyOfDefault (nameKey s) (S .defaults)))
-    (fifteen defaultLimit (length (S .defaults)) (length s + length v) S)
-change-numbered S (DropDefault s) = two-numbered _ _ (seven (not (extension s))) (thirteen (lookup keyOfDefault (nameKey s) (S .defaults)))
-change-numbered S (PutOverride s v) =
-    three-numbered _ _ _ (two-numbered _ _ (part-field-numbered s) (seven (not (mediaType v)))) (ten (lookup keyOfOverride (nameKey s) (S .overrides)))
-    (fifteen overrideLimit (length (S .overrides)) (length s + length v) S)
-change-numbered S (DropOverride s) = two-numbered _ _ (part-field-numbered s) (thirteen (lookup keyOfOverride (nameKey s) (S .overrides)))
+    put-numbered itemKind S (record { name = s; bytes = x }) (misfits s (S .items)) (item-field-numbered s) (misfits-numbered s (S .items))
+change-numbered S (DropItem s) = all-numbered _ (item-field-numbered s, (thirteen (itemAt s (S .items)), tt))
+change-numbered S (PutDefault s v) = put-numbered defaultKind S _ [] (default-numbered (record { extension = s; type = v })) tt
+change-numbered S (DropDefault s) = drop-numbered defaultKind S (extensionField s ∷ []) (nameKey s) (seven (not (extension s)), tt)
+change-numbered S (PutOverride s v) = put-numbered overrideKind S _ [] (override-numbered (record { name = s; type = v })) tt
+change-numbered S (DropOverride s) = drop-numbered overrideKind S (partField s ∷ []) (nameKey s) (part-field-numbered s, tt)
 change-numbered S (PutRelationship s i v m t) =
-    three-numbered _ _ _
-    (first-numbered _ _ (source-field-numbered s) (first-numbered _ _ (eight (not (identifier i)))
-    (three-numbered _ _ _ (eight (not (packageIri v))) (eight (not (leb m 1))) (target-field-numbered m s t))))
-    (ten (lookup keyOfRelationship (relationshipKey s i) (S .relationships)))
-    (fifteen relationshipLimit (length (S .relationships)) (length s + length i + length v + length t) S)
+    put-numbered relationshipKind S _ [] (relationship-numbered (record { source = s; id = i; type = v; mode = m; target = t })) tt
 change-numbered S (DropRelationship s i) =
-    three-numbered _ _ _ (source-field-numbered s) (eight (not (identifier i))) (thirteen (lookup keyOfRelationship (relationshipKey s i) (S .relationships)))
+    drop-numbered relationshipKind S (sourceField s ∷ idField i ∷ []) (relationshipKey s i)
+    (source-field-numbered s, (eight (not (identifier i)), tt))
 
 -- the fields of a resolution, and of a stream's source
 pub resolve-fields-numbered : (s i base : Bytes) → Numbered (first (sourceField s ∷ idField i ∷ packageField base ∷ []))
 resolve-fields-numbered s i base =
-    three-numbered _ _ _ (source-field-numbered s) (eight (not (identifier i))) (when-numbered (not (packageIri base)) 9 (omega arith) (omega arith))
+    all-numbered _ (source-field-numbered s,
+        (eight (not (identifier i)), (when-numbered (not (packageIri base)) 9 (omega arith) (omega arith), tt)))

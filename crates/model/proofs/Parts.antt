@@ -10,13 +10,13 @@ use Rattle.chars.specs.Folding.{fold, equivalent, order}
 use Rattle.chars.specs.declared.folding.Order.the-variants.{Less}
 use Rattle.chars.proofs.Equivalence.{equivalent-fold, fold-equivalent}
 use Rattle.names.specs.Names.{partName, reserved}
-use Rattle.model.specs.Sets.{Bytes, before, those, Each, Pairs, Sorted}
+use Rattle.model.specs.Sets.{Bytes, before, filter, Each, AllPairs, Sorted}
 use Rattle.model.specs.Places.{lead}
 use Rattle.model.specs.Fields.{prefixOf}
-use Rattle.model.specs.Package.{Item, State, keyOfItem, group, isPart, spelling, leaders, groups, parts}
-use Rattle.model.specs.Good.{Good, fieldsOfItem}
+use Rattle.model.specs.Package.{Item, State, keyOfItem, group, isPart, spelling, leaders, groups, parts, itemKind}
+use Rattle.model.specs.Good.{Good}
 use Rattle.base.proofs.Bools.{not-passing}
-use Rattle.model.proofs.Lists.{each-map, each-both, each-drop, pairs-drop, map-each, those-append, those-all, those-none, those-those, each-those, pairs-those, length-those}
+use Rattle.model.proofs.Lists.{each-map, each-both, each-drop, pairs-drop, map-each, filter-append, filter-all, filter-none, filter-filter, each-filter, pairs-filter, length-filter}
 use Rattle.model.proofs.Walks.{lead-take}
 use Rattle.model.proofs.KeyOrders.{begins-less}
 use Rattle.model.proofs.ItemNames.{accepted-prefix}
@@ -25,28 +25,32 @@ use Rattle.model.proofs.Groups.{alike, unlike, own, alike-same, group-p
 pub each-leaders : (P : Item → Type 0) (xs : List Item) → Each P xs → Each P (leaders xs)
 unfolding leaders
 each-leaders P [] h = tt
-each-leaders P (x ∷ xs) h = (h .0, each-those P P (unlike (prefixOf (x .name))) (leaders xs) (λ y e k. k) (each-leaders P xs (h .1)))
+each-leaders P (x ∷ xs) h = (h .0, each-filter P P (unlike (prefixOf (x .name))) (leaders xs) (λ y e k. k) (each-leaders P xs (h .1)))
 
 -- items of one group lead no other
-leaders-past : (p : Bytes) (xs ys : List Item) → Each (λ (i : Item). alike p i ≡ true) xs → those (unlike p) (leaders (xs ++ ys)) ≡ those (unlike p) (leaders ys)
-unfolding leaders those
+leaders-past : (p : Bytes) (xs ys : List Item) → Each (λ (i : Item). alike p i ≡ true) xs → filter (unlike p) (leaders (xs ++ ys))
+    ≡ filter (unlike p) (leaders ys)
+unfolding leaders filter
 leaders-past p [] ys h = refl
 leaders-past p (x ∷ xs) ys h =
     rw (h .0)
-    (those-those (unlike p) (unlike (prefixOf (x .name))) (leaders (xs ++ ys))
+    (filter-filter (unlike p) (unlike (prefixOf (x .name))) (leaders (xs ++ ys))
     (λ z. ap not (alike-same p (prefixOf (x .name)) (sym (equivalent-fold (prefixOf (x .name)) p (h .0))) z))
     ∙ leaders-past p xs ys (h .1))
 
 -- and are in no other
-other-group : (p q : Bytes) (xs ys : List Item) → Each (λ (i : Item). alike p i ≡ true) xs → equivalent q p ≡ false → group q (xs ++ ys) ≡ group q ys
+other-group : (p q : Bytes) (xs ys : List Item) → Each (λ (i : Item). alike p i ≡ true) xs → equivalent q p ≡ false →
+    group q (xs ++ ys) ≡ group q ys
 unfolding group
 other-group p q xs ys h n =
-    those-append (alike q) xs ys
-    ∙ ap (λ (l : List Item). l ++ those (alike q) ys)
-    (those-none (alike q) xs (each-map (λ (i : Item). alike p i ≡ true) (λ (i : Item). alike q i ≡ false) xs (λ i e. not-passing (alike q i) (both i e)) h))
+    filter-append (alike q) xs ys
+    ∙ ap (λ (l : List Item). l ++ filter (alike q) ys)
+    (filter-none (alike q) xs (each-map (λ (i : Item). alike p i ≡ true) (λ (i : Item). alike q i ≡ false) xs
+        (λ i e. not-passing (alike q i) (both i e)) h))
   where
     both : (i : Item) → alike p i ≡ true → alike q i ≡ true → ⊥
-    both i e f = true≢false (sym (fold-equivalent q p (sym (equivalent-fold (prefixOf (i .name)) q f) ∙ equivalent-fold (prefixOf (i .name)) p e)) ∙ n)
+    both i e f = true≢false (sym (fold-equivalent q p (sym (equivalent-fold (prefixOf (i .name)) q f)
+        ∙ equivalent-fold (prefixOf (i .name)) p e)) ∙ n)
 
 -- the length of the rest of x's group, and what stands behind the group
 abbrev pub restOf : Item → List Item → ℕ
@@ -69,10 +73,11 @@ module _ (x : Item) (ys : List Item) (s : Sorted keyOfItem (x ∷ ys)) where
   unfolding leaders
   leaders-run =
       ap (λ (l : List Item). x ∷ l)
-      (ap (λ (l : List Item). those (unlike (prefixOf (x .name))) (leaders l)) (sym (take-append-drop (restOf x ys) ys))
+      (ap (λ (l : List Item). filter (unlike (prefixOf (x .name))) (leaders l)) (sym (take-append-drop (restOf x ys) ys))
       ∙ leaders-past (prefixOf (x .name)) (take (restOf x ys) ys) (behind x ys) (lead-take (alike (prefixOf (x .name))) ys)
-      ∙ those-all (unlike (prefixOf (x .name))) (leaders (behind x ys))
-      (each-map (λ (i : Item). alike (prefixOf (x .name)) i ≡ false) (λ (i : Item). unlike (prefixOf (x .name)) i ≡ true) (leaders (behind x ys)) (λ i e. ap not e)
+      ∙ filter-all (unlike (prefixOf (x .name))) (leaders (behind x ys))
+      (each-map (λ (i : Item). alike (prefixOf (x .name)) i ≡ false) (λ (i : Item). unlike (prefixOf (x .name)) i ≡ true)
+          (leaders (behind x ys)) (λ i e. ap not e)
       (each-leaders (λ (i : Item). alike (prefixOf (x .name)) i ≡ false) (behind x ys) behind-apart)))
 
   -- the groups are the runs, one after the other
@@ -80,8 +85,10 @@ module _ (x : Item) (ys : List Item) (s : Sorted keyOfItem (x ∷ ys)) where
   groups-run =
       ap (map (λ (i : Item). group (prefixOf (i .name)) (x ∷ ys))) leaders-run
       ∙ ap₂ _∷_ (group-from x (prefixOf (x .name)) (own x) ys s)
-      (map-each (λ (i : Item). group (prefixOf (i .name)) (x ∷ ys)) (λ (i : Item). group (prefixOf (i .name)) (behind x ys)) (leaders (behind x ys))
-      (each-leaders Same (behind x ys) (each-map (λ (i : Item). alike (prefixOf (x .name)) i ≡ false) Same (behind x ys) other behind-apart)))
+      (map-each (λ (i : Item). group (prefixOf (i .name)) (x ∷ ys)) (λ (i : Item). group (prefixOf (i .name)) (behind x ys))
+          (leaders (behind x ys))
+      (each-leaders Same (behind x ys)
+          (each-map (λ (i : Item). alike (prefixOf (x .name)) i ≡ false) Same (behind x ys) other behind-apart)))
     where
       Same : Item → Type 0
       Same i = group (prefixOf (i .name)) (x ∷ ys) ≡ group (prefixOf (i .name)) (behind x ys)
@@ -89,11 +96,13 @@ module _ (x : Item) (ys : List Item) (s : Sorted keyOfItem (x ∷ ys)) where
       other : (i : Item) → alike (prefixOf (x .name)) i ≡ false → Same i
       other i e =
           ap (λ (l : List Item). group (prefixOf (i .name)) (x ∷ l)) (sym (take-append-drop (restOf x ys) ys))
-          ∙ other-group (prefixOf (x .name)) (prefixOf (i .name)) (x ∷ take (restOf x ys) ys) (behind x ys) (own x, lead-take (alike (prefixOf (x .name))) ys) e
+          ∙ other-group (prefixOf (x .name)) (prefixOf (i .name)) (x ∷ take (restOf x ys) ys) (behind x ys)
+              (own x, lead-take (alike (prefixOf (x .name))) ys) e
 
-  pub parts-run : parts (x ∷ ys) ≡ cond (isPart (x ∷ take (restOf x ys) ys)) ((x ∷ take (restOf x ys) ys) ∷ parts (behind x ys)) (parts (behind x ys))
-  unfolding parts those
-  parts-run = ap (those isPart) groups-run
+  pub parts-run : parts (x ∷ ys) ≡ cond (isPart (x ∷ take (restOf x ys) ys)) ((x ∷ take (restOf x ys) ys) ∷ parts (behind x ys))
+      (parts (behind x ys))
+  unfolding parts filter
+  parts-run = ap (filter isPart) groups-run
 
 -- what holds of every item's prefix holds of every group's spelling (f bounds the length)
 pub groups-each :
@@ -106,33 +115,38 @@ groups-each P zero (x ∷ ys) l s h = absurd (omega arith)
 groups-each P (suc f) (x ∷ ys) l s h =
     subst (Each (λ (g : List Item). P (spelling g))) (sym (groups-run x ys s)) (
       h .0,
-      groups-each P f (behind x ys) (behind-shorter x ys f l) (behind-sorted x ys s) (each-drop (λ (i : Item). P (prefixOf (i .name))) (restOf x ys) ys (h .1)),
+      groups-each P f (behind x ys) (behind-shorter x ys f l) (behind-sorted x ys s)
+          (each-drop (λ (i : Item). P (prefixOf (i .name))) (restOf x ys) ys (h .1)),
     )
 
 abbrev pub InFoldedOrder : List Item → List Item → Type 0
 InFoldedOrder g h = order (fold (spelling g)) (fold (spelling h)) ≡ Less
 
-groups-folded : (f : ℕ) (xs : List Item) → length xs ≤ f → Sorted keyOfItem xs → Pairs InFoldedOrder (groups xs)
+groups-folded : (f : ℕ) (xs : List Item) → length xs ≤ f → Sorted keyOfItem xs → AllPairs InFoldedOrder (groups xs)
 unfolding leaders spelling
 groups-folded zero [] l s = tt
 groups-folded (suc f) [] l s = tt
 groups-folded zero (x ∷ ys) l s = absurd (omega arith)
 groups-folded (suc f) (x ∷ ys) l s =
-    subst (Pairs InFoldedOrder) (sym (groups-run x ys s)) (
-      groups-each (λ (q : Bytes). order (fold (prefixOf (x .name))) (fold q) ≡ Less) f (behind x ys) (behind-shorter x ys f l) (behind-sorted x ys s)
+    subst (AllPairs InFoldedOrder) (sym (groups-run x ys s)) (
+      groups-each (λ (q : Bytes). order (fold (prefixOf (x .name))) (fold q) ≡ Less) f (behind x ys) (behind-shorter x ys f l)
+          (behind-sorted x ys s)
           (each-both (λ (i : Item). alike (prefixOf (x .name)) i ≡ false) (λ (i : Item). before (keyOfItem x) (keyOfItem i) ≡ true)
           (λ (i : Item). order (fold (prefixOf (x .name))) (fold (prefixOf (i .name))) ≡ Less) (behind x ys) less
           (behind-apart x ys s) (each-drop (λ (i : Item). before (keyOfItem x) (keyOfItem i) ≡ true) (restOf x ys) ys (s .0))),
       groups-folded f (behind x ys) (behind-shorter x ys f l) (behind-sorted x ys s),
     )
   where
-    less : (i : Item) → alike (prefixOf (x .name)) i ≡ false → before (keyOfItem x) (keyOfItem i) ≡ true → order (fold (prefixOf (x .name))) (fold (prefixOf (i .name))) ≡ Less
-    less i h k = begins-less (keyOfItem x) (keyOfItem i) k (λ e. true≢false (sym (fold-equivalent (prefixOf (i .name)) (prefixOf (x .name)) (sym e)) ∙ h))
+    less : (i : Item) → alike (prefixOf (x .name)) i ≡ false → before (keyOfItem x) (keyOfItem i) ≡ true →
+        order (fold (prefixOf (x .name))) (fold (prefixOf (i .name))) ≡ Less
+    less i h k = begins-less (keyOfItem x) (keyOfItem i) k
+        (λ e. true≢false (sym (fold-equivalent (prefixOf (i .name)) (prefixOf (x .name)) (sym e)) ∙ h))
 
 -- the parts stand "in folded order"
-pub parts-folded : (xs : List Item) → Sorted keyOfItem xs → Pairs InFoldedOrder (parts xs)
+pub parts-folded : (xs : List Item) → Sorted keyOfItem xs → AllPairs InFoldedOrder (parts xs)
 unfolding parts
-parts-folded xs s = pairs-those InFoldedOrder InFoldedOrder isPart (groups xs) (λ g h a b l. l) (groups-folded (length xs) xs (omega arith) s)
+parts-folded xs s = pairs-filter InFoldedOrder InFoldedOrder isPart (groups xs) (λ g h a b l. l)
+    (groups-folded (length xs) xs (omega arith) s)
 
 -- every part's spelling is an unreserved part name
 abbrev pub Unreserved : Bytes → Type 0
@@ -141,16 +155,19 @@ Unreserved s = (partName s ≡ true) × (reserved s ≡ false)
 pub parts-named : (S : State) → Good S → Each (λ (g : List Item). Unreserved (spelling g)) (parts (S .items))
 unfolding parts
 parts-named S g =
-    each-those (λ (q : List Item). Unreserved (spelling q)) (λ (q : List Item). Unreserved (spelling q)) isPart (groups (S .items)) (λ q e h. h)
+    each-filter (λ (q : List Item). Unreserved (spelling q)) (λ (q : List Item). Unreserved (spelling q)) isPart (groups (S .items))
+        (λ q e h. h)
     (groups-each Unreserved (length (S .items)) (S .items) (omega arith) (g .items .sorted)
-    (each-map (λ (i : Item). fieldsOfItem i ≡ 0) (λ (i : Item). Unreserved (prefixOf (i .name))) (S .items) (λ i h. accepted-prefix (i .name) h) (g .items .fielded)))
+    (each-map (λ (i : Item). itemKind .fields i ≡ 0) (λ (i : Item). Unreserved (prefixOf (i .name))) (S .items)
+        (λ i h. accepted-prefix (i .name) h) (g .items .fielded)))
 
 -- there are no more parts than items
 leaders-few : (xs : List Item) → length (leaders xs) ≤ length xs
 unfolding leaders
 leaders-few [] = omega arith
-leaders-few (x ∷ xs) = omega (arith, length-those (unlike (prefixOf (x .name))) (leaders xs), leaders-few xs)
+leaders-few (x ∷ xs) = omega (arith, length-filter (unlike (prefixOf (x .name))) (leaders xs), leaders-few xs)
 
 pub parts-few : (xs : List Item) → length (parts xs) ≤ length xs
 unfolding parts
-parts-few xs = omega (arith, length-those isPart (groups xs), length-map (leaders xs) (λ (i : Item). group (prefixOf (i .name)) xs), leaders-few xs)
+parts-few xs = omega (arith, length-filter isPart (groups xs), length-map (leaders xs) (λ (i : Item). group (prefixOf (i .name)) xs),
+    leaders-few xs)

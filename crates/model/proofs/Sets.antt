@@ -7,7 +7,7 @@ use mathlib.Core.List.{List, [], _∷_}
 use mathlib.Core.Option.{some}
 use native.Mathlib.Omega.{arith}
 use lib.ListN.{length}
-use Rattle.model.specs.Sets.{Key, before, sameKey, held, sumOf, lookup, insert, remove, Each, Pairs, Sorted}
+use Rattle.model.specs.Sets.{Key, before, sameKey, held, sumOf, lookup, insert, remove, Each, AllPairs, Sorted}
 use Rattle.model.proofs.Lists.{each-map}
 use Rattle.model.proofs.KeyOrders.{before-trans, before-turn, same-key-refl}
 
@@ -22,7 +22,8 @@ module _ {E : Type 0} (key : E → Key) where
   absent k (x ∷ xs) h = go (sameKey k (key x)) refl h (absent k xs)
     where
       go :
-          (b : Bool) → sameKey k (key x) ≡ b → held (cond b (some x) (lookup key k xs)) ≡ false → (held (lookup key k xs) ≡ false → Absent k xs) →
+          (b : Bool) → sameKey k (key x) ≡ b → held (cond b (some x) (lookup key k xs)) ≡ false →
+              (held (lookup key k xs) ≡ false → Absent k xs) →
           (sameKey k (key x) ≡ false) × Absent k xs
       go true e h k = absurd (true≢false h)
       go false e h k = (e, k h)
@@ -37,12 +38,12 @@ module _ {E : Type 0} (key : E → Key) where
       go false h = (a .0, h)
 
   pub pairs-insert :
-      (R : E → E → Type 0) (e : E) (xs : List E) → Each (R e) xs → Each (λ (x : E). R x e) xs → Pairs R xs → Pairs R (insert key e xs)
+      (R : E → E → Type 0) (e : E) (xs : List E) → Each (R e) xs → Each (λ (x : E). R x e) xs → AllPairs R xs → AllPairs R (insert key e xs)
   unfolding insert
   pairs-insert R e [] l r a = (tt, tt)
   pairs-insert R e (x ∷ xs) l r a = go (before (key e) (key x)) (pairs-insert R e xs (l .1) (r .1) (a .1))
     where
-      go : (b : Bool) → Pairs R (insert key e xs) → Pairs R (cond b (e ∷ x ∷ xs) (x ∷ insert key e xs))
+      go : (b : Bool) → AllPairs R (insert key e xs) → AllPairs R (cond b (e ∷ x ∷ xs) (x ∷ insert key e xs))
       go true h = (l, a)
       go false h = (each-insert (R x) e xs (r .0) (a .0), h)
 
@@ -54,7 +55,8 @@ module _ {E : Type 0} (key : E → Key) where
     where
       go : (b : Bool) → before (key e) (key x) ≡ b → Sorted key (insert key e xs) → Sorted key (cond b (e ∷ x ∷ xs) (x ∷ insert key e xs))
       go true m h =
-          ((m, each-map (λ (y : E). before (key x) (key y) ≡ true) (λ (y : E). before (key e) (key y) ≡ true) xs (λ y l. before-trans (key e) (key x) (key y) m l) (a .0)), a)
+          ((m, each-map (λ (y : E). before (key x) (key y) ≡ true) (λ (y : E). before (key e) (key y) ≡ true) xs
+              (λ y l. before-trans (key e) (key x) (key y) m l) (a .0)), a)
       go false m h = (each-insert (λ (y : E). before (key x) (key y) ≡ true) e xs (before-turn (key e) (key x) m (f .0)) (a .0), h)
 
   pub each-remove : (P : E → Type 0) (k : Key) (xs : List E) → Each P xs → Each P (remove key k xs)
@@ -67,12 +69,12 @@ module _ {E : Type 0} (key : E → Key) where
       go false h = (a .0, h)
 
   -- a removal keeps what holds of every two entries: the order too
-  pub pairs-remove : (R : E → E → Type 0) (k : Key) (xs : List E) → Pairs R xs → Pairs R (remove key k xs)
+  pub pairs-remove : (R : E → E → Type 0) (k : Key) (xs : List E) → AllPairs R xs → AllPairs R (remove key k xs)
   unfolding remove
   pairs-remove R k [] a = tt
   pairs-remove R k (x ∷ xs) a = go (sameKey k (key x)) (pairs-remove R k xs (a .1))
     where
-      go : (b : Bool) → Pairs R (remove key k xs) → Pairs R (cond b xs (x ∷ remove key k xs))
+      go : (b : Bool) → AllPairs R (remove key k xs) → AllPairs R (cond b xs (x ∷ remove key k xs))
       go true h = a .1
       go false h = (each-remove (R x) k xs (a .0), h)
 
@@ -84,7 +86,8 @@ module _ {E : Type 0} (key : E → Key) where
   length-insert e [] = refl
   length-insert e (x ∷ xs) = go (before (key e) (key x)) (length-insert e xs)
     where
-      go : (b : Bool) → length (insert key e xs) ≡ suc (length xs) → length (cond b (e ∷ x ∷ xs) (x ∷ insert key e xs)) ≡ suc (suc (length xs))
+      go : (b : Bool) → length (insert key e xs) ≡ suc (length xs) → length (cond b (e ∷ x ∷ xs) (x ∷ insert key e xs))
+          ≡ suc (suc (length xs))
       go true h = refl
       go false h = ap suc h
 
@@ -102,7 +105,8 @@ module _ {E : Type 0} (key : E → Key) where
   sum-insert f e [] = refl
   sum-insert f e (x ∷ xs) = go (before (key e) (key x)) (sum-insert f e xs)
     where
-      go : (b : Bool) → sumOf f (insert key e xs) ≡ f e + sumOf f xs → sumOf f (cond b (e ∷ x ∷ xs) (x ∷ insert key e xs)) ≡ f e + (f x + sumOf f xs)
+      go : (b : Bool) → sumOf f (insert key e xs) ≡ f e + sumOf f xs → sumOf f (cond b (e ∷ x ∷ xs) (x ∷ insert key e xs))
+          ≡ f e + (f x + sumOf f xs)
       go true h = refl
       go false h = omega arith
 
@@ -121,7 +125,8 @@ module _ {E : Type 0} (key : E → Key) where
   lookup-insert e [] f = rw (same-key-refl (key e))
   lookup-insert e (x ∷ xs) f = go (before (key e) (key x)) (lookup-insert e xs (f .1))
     where
-      go : (b : Bool) → lookup key (key e) (insert key e xs) ≡ some e → lookup key (key e) (cond b (e ∷ x ∷ xs) (x ∷ insert key e xs)) ≡ some e
+      go : (b : Bool) → lookup key (key e) (insert key e xs) ≡ some e → lookup key (key e) (cond b (e ∷ x ∷ xs) (x ∷ insert key e xs))
+          ≡ some e
       go true h = rw (same-key-refl (key e))
       go false h = rw (f .0) h
 

@@ -1,6 +1,6 @@
 -- Texts that begin alike stand side by side in their order.
 -- Assumes nothing.
-use Prim.Native.Nat.{ℕ, suc, _+_}
+use Prim.Native.Nat.{ℕ, _+_}
 use mathlib.Core.Path.{_≡_, refl, ap, sym, _∙_}
 use mathlib.Core.Bool.{Bool, true, false, _&&_, cond, true≢false}
 use mathlib.Core.List.{List, [], _∷_, _++_}
@@ -8,8 +8,8 @@ use native.Mathlib.Omega.{arith}
 use lib.Dec.{leb, ltb, eqb}
 use lib.ListN.{length, take}
 use borrow.Author.Tests.{ltb-false, leb-true, eqb-true, eq-eqb}
-use Rattle.chars.specs.Bytes.{slash, within}
-use Rattle.chars.specs.Lists.{same, begins, split, cut, all}
+use Rattle.chars.specs.Bytes.{slash}
+use Rattle.chars.specs.Lists.{same, begins}
 use Rattle.chars.specs.Folding.{lower, fold, order}
 use Rattle.chars.specs.declared.folding.Order.the-variants.{Less, Greater}
 use Rattle.base.proofs.Bools.{and-left, and-right, and-true, and-false}
@@ -27,7 +27,8 @@ begins-between (x ∷ t) (y ∷ a) (z ∷ b) h l e =
     go (ltb y x) refl (ltb x y) refl h (rw f at l) (λ h l. begins-between t a b h l (and-right (eqb z x) (same (take (length t) b) t) e))
   where
     go :
-        (p : Bool) → ltb y x ≡ p → (q : Bool) → ltb x y ≡ q → (cond p Less (cond q Greater (order a t)) ≡ Less → ⊥) → cond p Less (cond q Greater (order a b)) ≡ Less →
+        (p : Bool) → ltb y x ≡ p → (q : Bool) → ltb x y ≡ q → (cond p Less (cond q Greater (order a t)) ≡ Less → ⊥) →
+            cond p Less (cond q Greater (order a b)) ≡ Less →
         ((order a t ≡ Less → ⊥) → order a b ≡ Less → same (take (length t) a) t ≡ true) → (eqb y x && same (take (length t) a) t) ≡ true
     go true i q j h l ih = absurd (h refl)
     go false i true j h l ih = absurd (less-greater (sym l))

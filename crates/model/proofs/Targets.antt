@@ -13,8 +13,7 @@ use Rattle.targets.specs.Targets.{internal, resolvePath, internalRefusal, targe
 use Rattle.names.proofs.Lengths.{iri-few}
 use Rattle.targets.proofs.Judging.{target-few}
 use Rattle.model.specs.Fields.{sourceField, idField, relationshipTypeField, modeField, targetField, relationshipFields}
-use Rattle.model.specs.Package.{Relationship}
-use Rattle.model.specs.Good.{fieldsOfRelationship}
+use Rattle.model.specs.Package.{Relationship, relationshipKind}
 use Rattle.model.proofs.Refusals.{all-none, unmet}
 
 -- a relationship's fields, one by one
@@ -25,7 +24,7 @@ pub record Fielded (r : Relationship) : Type 0 where
   pub mode : modeField (r .mode) ≡ 0
   pub target : targetField (r .mode) (r .source) (r .target) ≡ 0
 
-pub fielded : (r : Relationship) → fieldsOfRelationship r ≡ 0 → Fielded r
+pub fielded : (r : Relationship) → relationshipKind .fields r ≡ 0 → Fielded r
 unfolding relationshipFields
 fielded r h =
     let z = all-none _ h in
@@ -46,7 +45,8 @@ internal-none false p r h = absurd (omega arith)
 -- an internal target is of that form, and resolves to an unreserved part name
 pub internal-target :
     (r : Relationship) → Fielded r → eqb (r .mode) 1 ≡ false →
-    (internal (r .target) ≡ true) × (partName (resolvePath (r .source) (r .target)) ≡ true) × (reserved (resolvePath (r .source) (r .target)) ≡ false)
+    (internal (r .target) ≡ true) × (partName (resolvePath (r .source) (r .target)) ≡ true) ×
+        (reserved (resolvePath (r .source) (r .target)) ≡ false)
 unfolding targetRefusal internalRefusal
 internal-target r f h =
     let n : r .mode ≡ 1 → ⊥ = eqb-false (r .mode) 1 h in
@@ -68,5 +68,6 @@ target-size r f = go (eqb (r .mode) 1) refl
     go true e =
         let m : r .mode ≡ 1 = eqb-true (r .mode) 1 e in
         let z : eqb (r .mode) 0 ≡ false = ne-eqb (r .mode) 0 (λ y. omega arith) in
-        external (iri (r .target)) refl (sym (ap (λ (t : Bool). cond t (internalRefusal (r .source) (r .target)) (cond (iri (r .target)) 0 9)) z) ∙ f .target)
+        external (iri (r .target)) refl
+            (sym (ap (λ (t : Bool). cond t (internalRefusal (r .source) (r .target)) (cond (iri (r .target)) 0 9)) z) ∙ f .target)
     go false e = target-few (r .source) (r .target) (internal (r .target)) refl (ap not (internal-target r f e .0))

@@ -10,9 +10,9 @@ use lib.Dec.{ltb}
 use lib.ListN.{length, getD, take, drop}
 use lib.Seq.{slice, drop-cons, drop-length}
 use borrow.Author.Tests.{ltb-true, ltb-false, not-false}
-use Rattle.model.specs.Sets.{any, those, Each, Pairs}
+use Rattle.model.specs.Sets.{any, filter, Each, AllPairs}
 use Rattle.model.specs.Places.{firstWhere, lead}
-use Rattle.model.proofs.Lists.{each-map, each-both, each-at, those-none}
+use Rattle.model.proofs.Lists.{each-map, each-both, each-at, filter-none}
 
 module _ {E : Type 0} where
   module _ (p : E → Bool) where
@@ -26,7 +26,8 @@ module _ {E : Type 0} where
         go false e = omega arith
 
     -- A LOOP: one step past an entry that fails, the stop at one that passes, the end
-    pub walk-step : (xs : List E) (i : ℕ) (d : E) → i < length xs → p (getD xs i d) ≡ false → i + firstWhere p (drop i xs) ≡ i + 1 + firstWhere p (drop (i + 1) xs)
+    pub walk-step : (xs : List E) (i : ℕ) (d : E) → i < length xs → p (getD xs i d) ≡ false →
+        i + firstWhere p (drop i xs) ≡ i + 1 + firstWhere p (drop (i + 1) xs)
     unfolding firstWhere
     walk-step xs i d h e = rw (drop-cons xs i d h, e, add-one i) (omega arith)
 
@@ -44,7 +45,8 @@ module _ {E : Type 0} where
     first-passes [] d k = absurd (omega arith)
     first-passes (x ∷ xs) d k = go (p x) refl (first-passes xs d) k
       where
-        go : (t : Bool) → p x ≡ t → (firstWhere p xs < length xs → p (getD xs (firstWhere p xs) d) ≡ true) → cond t 0 (suc (firstWhere p xs)) < suc (length xs) → p (getD (x ∷ xs) (cond t 0 (suc (firstWhere p xs))) d) ≡ true
+        go : (t : Bool) → p x ≡ t → (firstWhere p xs < length xs → p (getD xs (firstWhere p xs) d) ≡ true) →
+            cond t 0 (suc (firstWhere p xs)) < suc (length xs) → p (getD (x ∷ xs) (cond t 0 (suc (firstWhere p xs))) d) ≡ true
         go true e ih k = e
         go false e ih k = ih (omega arith)
 
@@ -53,7 +55,8 @@ module _ {E : Type 0} where
     first-fails [] = tt
     first-fails (x ∷ xs) = go (p x) refl (first-fails xs)
       where
-        go : (b : Bool) → p x ≡ b → Each (λ (y : E). p y ≡ false) (take (firstWhere p xs) xs) → Each (λ (y : E). p y ≡ false) (take (cond b 0 (suc (firstWhere p xs))) (x ∷ xs))
+        go : (b : Bool) → p x ≡ b → Each (λ (y : E). p y ≡ false) (take (firstWhere p xs) xs) →
+            Each (λ (y : E). p y ≡ false) (take (cond b 0 (suc (firstWhere p xs))) (x ∷ xs))
         go true e h = tt
         go false e h = (e, h)
 
@@ -62,7 +65,8 @@ module _ {E : Type 0} where
     before-first [] m d l = absurd (omega arith)
     before-first (x ∷ xs) m d l = go (p x) refl m l (before-first xs)
       where
-        go : (b : Bool) → p x ≡ b → (m : ℕ) → m < cond b 0 (suc (firstWhere p xs)) → ((n : ℕ) (d : E) → n < firstWhere p xs → p (getD xs n d) ≡ false) → p (getD (x ∷ xs) m d) ≡ false
+        go : (b : Bool) → p x ≡ b → (m : ℕ) → m < cond b 0 (suc (firstWhere p xs)) →
+            ((n : ℕ) (d : E) → n < firstWhere p xs → p (getD xs n d) ≡ false) → p (getD (x ∷ xs) m d) ≡ false
         go true e m l ih = absurd (omega arith)
         go false e zero l ih = e
         go false e (suc m) l ih = ih m d (omega arith)
@@ -80,7 +84,7 @@ module _ {E : Type 0} where
 
     -- BINARY SEARCH: a test that, once passed, is passed by all that follow
     abbrev pub Monotone : List E → Type 0
-    Monotone xs = Pairs (λ (x y : E). p x ≡ true → p y ≡ true) xs
+    Monotone xs = AllPairs (λ (x y : E). p x ≡ true → p y ≡ true) xs
 
     -- an entry that does not pass is before the first
     pub failing-lt-first : (xs : List E) (m : ℕ) (d : E) → Monotone xs → m < length xs → p (getD xs m d) ≡ false → m < firstWhere p xs
@@ -99,12 +103,14 @@ module _ {E : Type 0} where
     first-rest [] h = tt
     first-rest (x ∷ xs) h = go (p x) refl (first-rest xs (h .1))
       where
-        go : (b : Bool) → p x ≡ b → Each (λ (y : E). p y ≡ true) (drop (firstWhere p xs) xs) → Each (λ (y : E). p y ≡ true) (drop (cond b 0 (suc (firstWhere p xs))) (x ∷ xs))
+        go : (b : Bool) → p x ≡ b → Each (λ (y : E). p y ≡ true) (drop (firstWhere p xs) xs) →
+            Each (λ (y : E). p y ≡ true) (drop (cond b 0 (suc (firstWhere p xs))) (x ∷ xs))
         go true e k = (e, each-map (λ (y : E). p x ≡ true → p y ≡ true) (λ (y : E). p y ≡ true) xs (λ y f. f e) (h .0))
         go false e k = k
 
     -- found by halving: the entry below fails, the entry at it passes
-    pub first-at : (xs : List E) (i : ℕ) (d : E) → Monotone xs → i ≤ length xs → ((j : ℕ) → i ≡ suc j → p (getD xs j d) ≡ false) → (i < length xs → p (getD xs i d) ≡ true) →
+    pub first-at : (xs : List E) (i : ℕ) (d : E) → Monotone xs → i ≤ length xs → ((j : ℕ) → i ≡ suc j → p (getD xs j d) ≡ false) →
+        (i < length xs → p (getD xs i d) ≡ true) →
         firstWhere p xs ≡ i
     first-at xs i d h l a b = go (ltb i (length xs)) refl i a refl
       where
@@ -121,7 +127,8 @@ module _ {E : Type 0} where
     first-lt [] k = absurd (true≢false (sym k))
     first-lt (x ∷ xs) k = go (p x) (first-lt xs) k
       where
-        go : (t : Bool) → (any p xs ≡ true → firstWhere p xs < length xs) → (t || any p xs) ≡ true → cond t 0 (suc (firstWhere p xs)) < suc (length xs)
+        go : (t : Bool) → (any p xs ≡ true → firstWhere p xs < length xs) → (t || any p xs) ≡ true →
+            cond t 0 (suc (firstWhere p xs)) < suc (length xs)
         go true ih k = omega arith
         go false ih k = let e = ih k in omega arith
 
@@ -130,7 +137,8 @@ module _ {E : Type 0} where
     first-append-none [] ys h = omega arith
     first-append-none (x ∷ xs) ys h = go (p x) (first-append-none xs ys) h
       where
-        go : (t : Bool) → (any p xs ≡ false → firstWhere p (xs ++ ys) ≡ length xs + firstWhere p ys) → (t || any p xs) ≡ false → cond t 0 (suc (firstWhere p (xs ++ ys))) ≡ suc (length xs) + firstWhere p ys
+        go : (t : Bool) → (any p xs ≡ false → firstWhere p (xs ++ ys) ≡ length xs + firstWhere p ys) → (t || any p xs) ≡ false →
+            cond t 0 (suc (firstWhere p (xs ++ ys))) ≡ suc (length xs) + firstWhere p ys
         go true ih h = absurd (true≢false h)
         go false ih h = omega (arith, ih h)
 
@@ -140,7 +148,8 @@ module _ {E : Type 0} where
     first-append-stop [] ys h = h
     first-append-stop (x ∷ xs) ys h = rw (first-append-stop xs ys h)
 
-  pub first-map : {F : Type 0} (f : F → E) (p : E → Bool) (q : F → Bool) → ((x : F) → p (f x) ≡ q x) → (xs : List F) → firstWhere p (map f xs) ≡ firstWhere q xs
+  pub first-map : {F : Type 0} (f : F → E) (p : E → Bool) (q : F → Bool) → ((x : F) → p (f x) ≡ q x) → (xs : List F) →
+      firstWhere p (map f xs) ≡ firstWhere q xs
   unfolding firstWhere
   first-map f p q e [] = refl
   first-map f p q e (x ∷ xs) = rw (e x, first-map f p q e xs)
@@ -153,7 +162,8 @@ module _ {E : Type 0} where
       nots [] h = tt
       nots (y ∷ ys) h = (not-false (p y) (h .0), nots ys (h .1))
 
-  -- BETWEEN TWO FIRSTS: those that pass p and not q, where both tests, once passed, are passed by all that follow, and what passes q passes p
+  -- BETWEEN TWO FIRSTS: those that pass p and not q, where both tests, once passed, are passed by all that follow, and what passes q
+  -- passes p
   first-none : (p : E → Bool) (xs : List E) → Each (λ (x : E). p x ≡ true) xs → firstWhere p xs ≡ 0
   unfolding firstWhere
   first-none p [] h = refl
@@ -170,10 +180,12 @@ module _ {E : Type 0} where
         go true = refl
         go false = refl
 
-    pub those-between : (xs : List E) → Monotone p xs → Monotone q xs → Each Parted xs → those r xs ≡ slice (firstWhere p xs) (firstWhere q xs) xs
-    unfolding those firstWhere
-    those-between [] a b c = refl
-    those-between (x ∷ xs) a b c = ap (λ (t : Bool). cond t (x ∷ those r xs) (those r xs)) (c .0 .1) ∙ go (p x) refl (q x) refl (those-between xs (a .1) (b .1) (c .1))
+    pub filter-between : (xs : List E) → Monotone p xs → Monotone q xs → Each Parted xs →
+        filter r xs ≡ slice (firstWhere p xs) (firstWhere q xs) xs
+    unfolding filter firstWhere
+    filter-between [] a b c = refl
+    filter-between (x ∷ xs) a b c = ap (λ (t : Bool). cond t (x ∷ filter r xs) (filter r xs)) (c .0 .1)
+        ∙ go (p x) refl (q x) refl (filter-between xs (a .1) (b .1) (c .1))
       where
         m : ℕ
         m = firstWhere p xs
@@ -181,11 +193,13 @@ module _ {E : Type 0} where
         n : ℕ
         n = firstWhere q xs
 
-        go : (s : Bool) → p x ≡ s → (t : Bool) → q x ≡ t → those r xs ≡ slice m n xs
-            → cond (s && not t) (x ∷ those r xs) (those r xs) ≡ slice (cond s 0 (suc m)) (cond t 0 (suc n)) (x ∷ xs)
-        go true e true f ih = those-none r xs (each-both (λ (y : E). q x ≡ true → q y ≡ true) Parted (λ (y : E). r y ≡ false) xs (λ y g h. past y (g f) h) (b .0) (c .1))
+        go : (s : Bool) → p x ≡ s → (t : Bool) → q x ≡ t → filter r xs ≡ slice m n xs
+            → cond (s && not t) (x ∷ filter r xs) (filter r xs) ≡ slice (cond s 0 (suc m)) (cond t 0 (suc n)) (x ∷ xs)
+        go true e true f ih = filter-none r xs
+            (each-both (λ (y : E). q x ≡ true → q y ≡ true) Parted (λ (y : E). r y ≡ false) xs (λ y g h. past y (g f) h) (b .0) (c .1))
         go true e false f ih =
-            let z : m ≡ 0 = first-none p xs (each-map (λ (y : E). p x ≡ true → p y ≡ true) (λ (y : E). p y ≡ true) xs (λ y g. g e) (a .0)) in
+            let z : m ≡ 0 = first-none p xs
+                (each-map (λ (y : E). p x ≡ true → p y ≡ true) (λ (y : E). p y ≡ true) xs (λ y g. g e) (a .0)) in
             ap (λ (l : List E). x ∷ l) (ih ∙ ap (λ (k : ℕ). slice k n xs) z)
         go false e true f ih = absurd (true≢false (sym (c .0 .0 f) ∙ e))
         go false e false f ih = ih

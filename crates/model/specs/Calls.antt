@@ -11,9 +11,9 @@ use Rattle.output.specs.Answers.{Outcome, Text, Refused, unless, Answer, answer
 use Rattle.iri.specs.References.{resolve}
 use Rattle.targets.specs.Targets.{resolvePath}
 use Rattle.pack.specs.Pack.{unfragmented, packIri}
-use Rattle.model.specs.Sets.{Bytes, held, any, lookup, insert, remove}
-use Rattle.model.specs.Fields.{when, first, prefixOf, suffixOf, askedField, itemField, partField, extensionField, sourceField, idField, packageField, defaultFields, overrideFields, relationshipFields}
-use Rattle.model.specs.Package.{Item, Default, Override, Relationship, State, itemLimit, defaultLimit, overrideLimit, relationshipLimit, empty, itemKey, nameKey, relationshipKey, keyOfItem, keyOfDefault, keyOfOverride, keyOfRelationship, charge, group, isPart, content, spelling, parts, disagrees, grows, itemAt, mediaTypeOf}
+use Rattle.model.specs.Sets.{Bytes, Key, held, any, lookup, insert, remove}
+use Rattle.model.specs.Fields.{when, first, prefixOf, suffixOf, askedField, itemField, partField, extensionField, sourceField, idField, packageField}
+use Rattle.model.specs.Package.{Item, Default, Override, Relationship, State, empty, charge, Kind, itemKind, defaultKind, overrideKind, relationshipKind, itemKey, nameKey, relationshipKey, keyOfItem, keyOfRelationship, group, isPart, content, spelling, parts, disagrees, grows, itemAt, mediaTypeOf}
 use Rattle.model.specs.Texts.{typesText, relationshipsText}
 
 -- a call that only looks
@@ -81,39 +81,59 @@ unfoldable pub startRefusal : ℕ → ℕ → ℕ
 startRefusal room C = when (ltb capacityLimit C || ltb room (C + overhead)) 2
 
 -- CHANGES. Refusals by "the fields as listed, a name by 6, 4, 5; then 10, 12, 11, 13, 14, 15"
-abbrev pub withItems : State → List Item → State
-withItems S l = record { capacity = S .capacity; items = l; defaults = S .defaults; overrides = S .overrides; relationships = S .relationships }
-
-abbrev pub withDefaults : State → List Default → State
-withDefaults S l = record { capacity = S .capacity; items = S .items; defaults = l; overrides = S .overrides; relationships = S .relationships }
-
-abbrev pub withOverrides : State → List Override → State
-withOverrides S l = record { capacity = S .capacity; items = S .items; defaults = S .defaults; overrides = l; relationships = S .relationships }
-
-abbrev pub withRelationships : State → List Relationship → State
-withRelationships S l = record { capacity = S .capacity; items = S .items; defaults = S .defaults; overrides = S .overrides; relationships = l }
 
 -- "15 a set is full or the charge would pass C"; "Freed charge is usable again": what is held now is summed
 abbrev pub noRoom : ℕ → ℕ → ℕ → State → Bool
 noRoom limit count added S = leb limit count || ltb (S .capacity) (charge S + added)
 
--- a new item name beside the held items. "10 taken: both whole, or same k in the group (last mark or not)": one key; 12; 11
-unfoldable pub clash : Bytes → List Item → ℕ
-clash name is =
-    first
-    (when (held (lookup keyOfItem (itemKey name) is)) 10
-    ∷ when (any (λ (i : Item). disagrees (suffixOf name) (suffixOf (i .name))) (group (prefixOf name) is)) 12
+module _ {E : Type 0} (kind : Kind E) where
+  -- a put of the entry e: by its fields, by "10 taken", by the call's own tests, by 15
+  abbrev pub putRefusal : State → E → List ℕ → ℕ
+  putRefusal S e own =
+      first
+      (kind .fields e
+      ∷ when (held (lookup (kind .key) (kind .key e) (kind .entries S))) 10
+      ∷ (own ++ when (noRoom (kind .limit) (length (kind .entries S)) (kind .charge e) S) 15 ∷ []))
+
+  -- a drop of the entry that has the key k: by the fields that make the key, by "13 not held"
+  abbrev pub dropRefusal : State → List ℕ → Key → ℕ
+  dropRefusal S fields k = first (fields ++ when (not (held (lookup (kind .key) k (kind .entries S)))) 13 ∷ [])
+
+  -- the package with the entry, and without the one that has the key
+  abbrev pub putIn : State → E → State
+  putIn S e = kind .renewed S (insert (kind .key) e (kind .entries S))
+
+  abbrev pub takenOut : State → Key → State
+  takenOut S k = kind .renewed S (remove (kind .key) k (kind .entries S))
+
+-- the package with other entries in one of its sets
+abbrev pub withItems : State → List Item → State
+withItems = itemKind .renewed
+
+abbrev pub withDefaults : State → List Default → State
+withDefaults = defaultKind .renewed
+
+abbrev pub withOverrides : State → List Override → State
+withOverrides = overrideKind .renewed
+
+abbrev pub withRelationships : State → List Relationship → State
+withRelationships = relationshipKind .renewed
+
+-- an item's own tests: 12 and 11 of a new name beside the held items
+abbrev pub misfits : Bytes → List Item → List ℕ
+misfits name is =
+    when (any (λ (i : Item). disagrees (suffixOf name) (suffixOf (i .name))) (group (prefixOf name) is)) 12
     ∷ when (any (λ (i : Item). grows (prefixOf name) (prefixOf (i .name))) is) 11
-    ∷ [])
+    ∷ []
+
+-- "10 taken: both whole, or same k in the group (last mark or not)": one key; 12; 11
+unfoldable pub clash : Bytes → List Item → ℕ
+clash name is = first (when (held (lookup keyOfItem (itemKey name) is)) 10 ∷ misfits name is)
 
 unfoldable pub putItemRefusal : State → Bytes → Bytes → ℕ
-putItemRefusal S name bytes =
-    first
-    (itemField name
-    ∷ clash name (S .items)
-    ∷ when (noRoom itemLimit (length (S .items)) (length name + length bytes) S) 15
-    ∷ [])
+putItemRefusal S name bytes = putRefusal itemKind S (record { name = name; bytes = bytes }) (misfits name (S .items))
 
+-- an item that is asked for has the name's last mark too
 unfoldable pub dropItemRefusal : State → Bytes → ℕ
 dropItemRefusal S name =
     first
@@ -122,50 +142,23 @@ dropItemRefusal S name =
     ∷ [])
 
 unfoldable pub putDefaultRefusal : State → Bytes → Bytes → ℕ
-putDefaultRefusal S extension type =
-    first
-    (defaultFields extension type
-    ∷ when (held (lookup keyOfDefault (nameKey extension) (S .defaults))) 10
-    ∷ when (noRoom defaultLimit (length (S .defaults)) (length extension + length type) S) 15
-    ∷ [])
+putDefaultRefusal S extension type = putRefusal defaultKind S (record { extension = extension; type = type }) []
 
 unfoldable pub dropDefaultRefusal : State → Bytes → ℕ
-dropDefaultRefusal S extension =
-    first
-    (extensionField extension
-    ∷ when (not (held (lookup keyOfDefault (nameKey extension) (S .defaults)))) 13
-    ∷ [])
+dropDefaultRefusal S extension = dropRefusal defaultKind S (extensionField extension ∷ []) (nameKey extension)
 
 unfoldable pub putOverrideRefusal : State → Bytes → Bytes → ℕ
-putOverrideRefusal S name type =
-    first
-    (overrideFields name type
-    ∷ when (held (lookup keyOfOverride (nameKey name) (S .overrides))) 10
-    ∷ when (noRoom overrideLimit (length (S .overrides)) (length name + length type) S) 15
-    ∷ [])
+putOverrideRefusal S name type = putRefusal overrideKind S (record { name = name; type = type }) []
 
 unfoldable pub dropOverrideRefusal : State → Bytes → ℕ
-dropOverrideRefusal S name =
-    first
-    (partField name
-    ∷ when (not (held (lookup keyOfOverride (nameKey name) (S .overrides)))) 13
-    ∷ [])
+dropOverrideRefusal S name = dropRefusal overrideKind S (partField name ∷ []) (nameKey name)
 
 unfoldable pub putRelationshipRefusal : State → Bytes → Bytes → Bytes → ℕ → Bytes → ℕ
 putRelationshipRefusal S source id type mode target =
-    first
-    (relationshipFields source id type mode target
-    ∷ when (held (lookup keyOfRelationship (relationshipKey source id) (S .relationships))) 10
-    ∷ when (noRoom relationshipLimit (length (S .relationships)) (length source + length id + length type + length target) S) 15
-    ∷ [])
+    putRefusal relationshipKind S (record { source = source; id = id; type = type; mode = mode; target = target }) []
 
 unfoldable pub dropRelationshipRefusal : State → Bytes → Bytes → ℕ
-dropRelationshipRefusal S source id =
-    first
-    (sourceField source
-    ∷ idField id
-    ∷ when (not (held (lookup keyOfRelationship (relationshipKey source id) (S .relationships)))) 13
-    ∷ [])
+dropRelationshipRefusal S source id = dropRefusal relationshipKind S (sourceField source ∷ idField id ∷ []) (relationshipKey source id)
 
 abbrev pub changeRefusal : State → Change → ℕ
 changeRefusal S (PutItem name bytes) = putItemRefusal S name bytes
@@ -179,15 +172,15 @@ changeRefusal S (DropRelationship source id) = dropRelationshipRefusal S source 
 
 -- the package after an accepted change: "Every field keeps its given spelling."
 abbrev pub changeMade : State → Change → State
-changeMade S (PutItem name bytes) = withItems S (insert keyOfItem (record { name = name; bytes = bytes }) (S .items))
-changeMade S (DropItem name) = withItems S (remove keyOfItem (itemKey name) (S .items))
-changeMade S (PutDefault extension type) = withDefaults S (insert keyOfDefault (record { extension = extension; type = type }) (S .defaults))
-changeMade S (DropDefault extension) = withDefaults S (remove keyOfDefault (nameKey extension) (S .defaults))
-changeMade S (PutOverride name type) = withOverrides S (insert keyOfOverride (record { name = name; type = type }) (S .overrides))
-changeMade S (DropOverride name) = withOverrides S (remove keyOfOverride (nameKey name) (S .overrides))
+changeMade S (PutItem name bytes) = putIn itemKind S (record { name = name; bytes = bytes })
+changeMade S (DropItem name) = takenOut itemKind S (itemKey name)
+changeMade S (PutDefault extension type) = putIn defaultKind S (record { extension = extension; type = type })
+changeMade S (DropDefault extension) = takenOut defaultKind S (nameKey extension)
+changeMade S (PutOverride name type) = putIn overrideKind S (record { name = name; type = type })
+changeMade S (DropOverride name) = takenOut overrideKind S (nameKey name)
 changeMade S (PutRelationship source id type mode target) =
-    withRelationships S (insert keyOfRelationship (record { source = source; id = id; type = type; mode = mode; target = target }) (S .relationships))
-changeMade S (DropRelationship source id) = withRelationships S (remove keyOfRelationship (relationshipKey source id) (S .relationships))
+    putIn relationshipKind S (record { source = source; id = id; type = type; mode = mode; target = target })
+changeMade S (DropRelationship source id) = takenOut relationshipKind S (relationshipKey source id)
 
 unfoldable pub change : State → Change → Answer × State
 change S c = changed (changeRefusal S c) S (changeMade S c)

@@ -1,35 +1,22 @@
 -- What holds of the package after every list of calls: the invariants that demand 3 names, and what the engine leans on.
 -- Assumes nothing.
-use Prim.Native.Nat.{ℕ, _≤_}
+use Prim.Native.Nat.{_≤_}
 use mathlib.Core.Path.{_≡_}
 use mathlib.Core.Bool.{true, false, _||_}
 use mathlib.Core.List.{List}
 use lib.ListN.{length}
 use Rattle.chars.specs.Folding.{equivalent, derivable}
-use Rattle.model.specs.Sets.{Key, Each, Pairs, Sorted}
-use Rattle.model.specs.Fields.{prefixOf, suffixOf, whole, itemField, defaultFields, overrideFields, relationshipFields}
-use Rattle.model.specs.Package.{Item, Default, Override, Relationship, State, itemLimit, defaultLimit, overrideLimit, relationshipLimit, rank, keyOfItem, keyOfDefault, keyOfOverride, keyOfRelationship, charge, disagrees}
+use Rattle.model.specs.Sets.{Each, AllPairs, Sorted}
+use Rattle.model.specs.Fields.{prefixOf, suffixOf, whole}
+use Rattle.model.specs.Package.{Item, State, Kind, itemKind, defaultKind, overrideKind, relationshipKind, rank, charge, disagrees}
 use Rattle.model.specs.Calls.{capacityLimit}
 
--- the fields of an entry, judged
-abbrev pub fieldsOfItem : Item → ℕ
-fieldsOfItem i = itemField (i .name)
-
-abbrev pub fieldsOfDefault : Default → ℕ
-fieldsOfDefault d = defaultFields (d .extension) (d .type)
-
-abbrev pub fieldsOfOverride : Override → ℕ
-fieldsOfOverride o = overrideFields (o .name) (o .type)
-
-abbrev pub fieldsOfRelationship : Relationship → ℕ
-fieldsOfRelationship r = relationshipFields (r .source) (r .id) (r .type) (r .mode) (r .target)
-
--- a set: in the order of its keys, each key once; within its limit; no field of an entry is refused
-module _ {E : Type 0} (key : E → Key) (limit : ℕ) (fields : E → ℕ) where
+-- a set of the kind: in the order of its keys, each key once; within its limit; no field of an entry is refused
+module _ {E : Type 0} (kind : Kind E) where
   pub record GoodSet (xs : List E) : Type 0 where
-    pub sorted : Sorted key xs
-    pub few : length xs ≤ limit
-    pub fielded : Each (λ (x : E). fields x ≡ 0) xs
+    pub sorted : Sorted (kind .key) xs
+    pub few : length xs ≤ kind .limit
+    pub fielded : Each (λ (x : E). kind .fields x ≡ 0) xs
 
 -- TWO HELD ITEMS. "a held whole item's name is equivalent to no other held item's prefix"
 abbrev pub Alone : Item → Item → Type 0
@@ -57,8 +44,8 @@ pub record Good (S : State) : Type 0 where
   pub capacity : S .capacity ≤ capacityLimit
   -- the charge doesn't pass C
   pub within : charge S ≤ S .capacity
-  pub items : GoodSet keyOfItem itemLimit fieldsOfItem (S .items)
-  pub beside : Pairs Beside (S .items)
-  pub defaults : GoodSet keyOfDefault defaultLimit fieldsOfDefault (S .defaults)
-  pub overrides : GoodSet keyOfOverride overrideLimit fieldsOfOverride (S .overrides)
-  pub relationships : GoodSet keyOfRelationship relationshipLimit fieldsOfRelationship (S .relationships)
+  pub items : GoodSet itemKind (S .items)
+  pub beside : AllPairs Beside (S .items)
+  pub defaults : GoodSet defaultKind (S .defaults)
+  pub overrides : GoodSet overrideKind (S .overrides)
+  pub relationships : GoodSet relationshipKind (S .relationships)

@@ -2,7 +2,7 @@
 -- Assumes nothing.
 use Prim.Native.Nat.{ℕ, suc, _+_}
 use mathlib.Core.Bool.{Bool, true, false, not, _&&_, _||_, Bool·beq, cond}
-use mathlib.Core.List.{List, [], _∷_, map}
+use mathlib.Core.List.{List, [], _∷_, map, flatMap}
 use mathlib.Core.Option.{Option, none, some}
 use lib.Dec.{ltb, eqb}
 use lib.ListN.{length, drop}
@@ -10,8 +10,8 @@ use Rattle.chars.specs.Folding.{fold, equivalent, derivable}
 use Rattle.names.specs.Names.{extensionAt}
 use Rattle.names.specs.declared.items.Suffix.{Suffix}
 use Rattle.names.specs.declared.items.Suffix.the-variants.{Whole, Piece}
-use Rattle.model.specs.Sets.{Bytes, Key, any, those, sumOf, joined, lookup}
-use Rattle.model.specs.Fields.{prefixOf, suffixOf, whole, last}
+use Rattle.model.specs.Sets.{Bytes, Key, any, filter, sumOf, lookup}
+use Rattle.model.specs.Fields.{prefixOf, suffixOf, whole, last, itemField, defaultFields, overrideFields, relationshipFields}
 
 -- STATE. "four sets: items (item name, bytes), Defaults (extension, type), Overrides (part name, type), relationships"
 pub record Item : Type 0 where
@@ -42,19 +42,6 @@ pub record State : Type 0 where
   pub overrides : List Override
   pub relationships : List Relationship
 
--- "At most 256, 64, 64 and 256."
-abbrev pub itemLimit : ℕ
-itemLimit = 256
-
-abbrev pub defaultLimit : ℕ
-defaultLimit = 64
-
-abbrev pub overrideLimit : ℕ
-overrideLimit = 64
-
-abbrev pub relationshipLimit : ℕ
-relationshipLimit = 256
-
 -- "start(C): all sets empty"
 abbrev pub empty : ℕ → State
 empty C = record { capacity = C; items = []; defaults = []; overrides = []; relationships = [] }
@@ -75,34 +62,107 @@ nameKey s = (fold s, [])
 abbrev pub relationshipKey : Bytes → Bytes → Key
 relationshipKey source id = (fold source, id)
 
+-- KINDS. What makes a set of the package: its entries, and the package with others in their place; the key of an entry; how many entries
+-- there are at most; the judgement of an entry's fields; an entry's charge
+pub record Kind (E : Type 0) : Type 0 where
+  pub entries : State → List E
+  pub renewed : State → List E → State
+  pub key : E → Key
+  pub limit : ℕ
+  pub fields : E → ℕ
+  pub charge : E → ℕ
+
+-- "At most 256, 64, 64 and 256."; "The charge is the sum of the byte lengths of all fields of all entries, a mode counting none."
+abbrev pub itemKind : Kind Item
+itemKind = record {
+  entries = λ S. S .items;
+  renewed = λ S l. record {
+    capacity = S .capacity; items = l; defaults = S .defaults; overrides = S .overrides; relationships = S .relationships;
+  };
+  key = λ i. itemKey (i .name);
+  limit = 256;
+  fields = λ i. itemField (i .name);
+  charge = λ i. length (i .name) + length (i .bytes);
+}
+
+abbrev pub defaultKind : Kind Default
+defaultKind = record {
+  entries = λ S. S .defaults;
+  renewed = λ S l. record {
+    capacity = S .capacity; items = S .items; defaults = l; overrides = S .overrides; relationships = S .relationships;
+  };
+  key = λ d. nameKey (d .extension);
+  limit = 64;
+  fields = λ d. defaultFields (d .extension) (d .type);
+  charge = λ d. length (d .extension) + length (d .type);
+}
+
+abbrev pub overrideKind : Kind Override
+overrideKind = record {
+  entries = λ S. S .overrides;
+  renewed = λ S l. record {
+    capacity = S .capacity; items = S .items; defaults = S .defaults; overrides = l; relationships = S .relationships;
+  };
+  key = λ o. nameKey (o .name);
+  limit = 64;
+  fields = λ o. overrideFields (o .name) (o .type);
+  charge = λ o. length (o .name) + length (o .type);
+}
+
+abbrev pub relationshipKind : Kind Relationship
+relationshipKind = record {
+  entries = λ S. S .relationships;
+  renewed = λ S l. record {
+    capacity = S .capacity; items = S .items; defaults = S .defaults; overrides = S .overrides; relationships = l;
+  };
+  key = λ r. relationshipKey (r .source) (r .id);
+  limit = 256;
+  fields = λ r. relationshipFields (r .source) (r .id) (r .type) (r .mode) (r .target);
+  charge = λ r. length (r .source) + length (r .id) + length (r .type) + length (r .target);
+}
+
+-- document 01's word for what the entries use of the capacity: the sum over all sets
+unfoldable pub charge : State → ℕ
+charge S =
+    sumOf (itemKind .charge) (S .items) + sumOf (defaultKind .charge) (S .defaults) + sumOf (overrideKind .charge) (S .overrides)
+    + sumOf (relationshipKind .charge) (S .relationships)
+
+-- the names under which statements cite a kind's limit, key and charge
+abbrev pub itemLimit : ℕ
+itemLimit = itemKind .limit
+
+abbrev pub defaultLimit : ℕ
+defaultLimit = defaultKind .limit
+
+abbrev pub overrideLimit : ℕ
+overrideLimit = overrideKind .limit
+
+abbrev pub relationshipLimit : ℕ
+relationshipLimit = relationshipKind .limit
+
 abbrev pub keyOfItem : Item → Key
-keyOfItem i = itemKey (i .name)
+keyOfItem = itemKind .key
 
 abbrev pub keyOfDefault : Default → Key
-keyOfDefault d = nameKey (d .extension)
+keyOfDefault = defaultKind .key
 
 abbrev pub keyOfOverride : Override → Key
-keyOfOverride o = nameKey (o .name)
+keyOfOverride = overrideKind .key
 
 abbrev pub keyOfRelationship : Relationship → Key
-keyOfRelationship r = relationshipKey (r .source) (r .id)
+keyOfRelationship = relationshipKind .key
 
--- CHARGE: document 01's word for what the entries use of the capacity. "The charge is the sum of the byte lengths of all fields of all entries,
--- a mode counting none."
 abbrev pub itemCharge : Item → ℕ
-itemCharge i = length (i .name) + length (i .bytes)
+itemCharge = itemKind .charge
 
 abbrev pub defaultCharge : Default → ℕ
-defaultCharge d = length (d .extension) + length (d .type)
+defaultCharge = defaultKind .charge
 
 abbrev pub overrideCharge : Override → ℕ
-overrideCharge o = length (o .name) + length (o .type)
+overrideCharge = overrideKind .charge
 
 abbrev pub relationshipCharge : Relationship → ℕ
-relationshipCharge r = length (r .source) + length (r .id) + length (r .type) + length (r .target)
-
-unfoldable pub charge : State → ℕ
-charge S = sumOf itemCharge (S .items) + sumOf defaultCharge (S .defaults) + sumOf overrideCharge (S .overrides) + sumOf relationshipCharge (S .relationships)
+relationshipCharge = relationshipKind .charge
 
 -- no item: what `getD` gives past the last
 abbrev pub noItem : Item
@@ -111,7 +171,7 @@ noItem = record { name = []; bytes = [] }
 -- GROUPS AND PARTS. A group is document 01's word for the items of one part, finished or not: "Items with equivalent prefixes form a group."
 -- The group of a prefix stands in the order of the keys, so its pieces by number
 unfoldable pub group : Bytes → List Item → List Item
-group p is = those (λ (i : Item). equivalent (prefixOf (i .name)) p) is
+group p is = filter (λ (i : Item). equivalent (prefixOf (i .name)) p) is
 
 -- the pieces k, k + 1, .., of which the last one and no other is marked as the last
 unfoldable pub completeFrom : ℕ → List Item → Bool
@@ -125,7 +185,7 @@ isPart g = eqb (length g) 1 && any (λ (i : Item). whole (suffixOf (i .name))) g
 
 -- "Its content is the pieces joined by number"
 unfoldable pub content : List Item → Bytes
-content g = joined (λ (i : Item). i .bytes) g
+content g = flatMap (λ (i : Item). i .bytes) g
 
 -- "its spelling is the whole item's or piece 0's": the prefix of the first item, so a piece's without its suffix
 unfoldable pub spelling : List Item → Bytes
@@ -135,14 +195,14 @@ spelling (i ∷ is) = prefixOf (i .name)
 -- the first item of each group, in folded order
 unfoldable pub leaders : List Item → List Item
 leaders [] = []
-leaders (i ∷ is) = i ∷ those (λ (j : Item). not (equivalent (prefixOf (j .name)) (prefixOf (i .name)))) (leaders is)
+leaders (i ∷ is) = i ∷ filter (λ (j : Item). not (equivalent (prefixOf (j .name)) (prefixOf (i .name)))) (leaders is)
 
 abbrev pub groups : List Item → List (List Item)
 groups is = map (λ (i : Item). group (prefixOf (i .name)) is) (leaders is)
 
 -- the groups that are a part, in folded order
 unfoldable pub parts : List Item → List (List Item)
-parts is = those isPart (groups is)
+parts is = filter isPart (groups is)
 
 -- "12 pieces disagree: whole beside piece, second last, a k above the last, a last below a held k": a new suffix beside a held one of its
 -- group. (Where no two numbers are equal, which is 10, "second last" implies one of the other two.)

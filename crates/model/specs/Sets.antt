@@ -3,7 +3,7 @@
 use Prim.Native.Nat.{ℕ, _+_}
 use mathlib.Core.Path.{_≡_}
 use mathlib.Core.Bool.{Bool, true, false, _||_, cond}
-use mathlib.Core.List.{List, [], _∷_, _++_}
+use mathlib.Core.List.{List, [], _∷_}
 use mathlib.Core.Option.{Option, none, some}
 use Rattle.chars.specs.Folding.{order}
 use Rattle.chars.specs.declared.folding.Order.{Order}
@@ -53,18 +53,13 @@ module _ {E : Type 0} where
   any p (x ∷ xs) = p x || any p xs
 
   -- the entries that pass, in their order
-  unfoldable pub those : (E → Bool) → List E → List E
-  those p [] = []
-  those p (x ∷ xs) = cond (p x) (x ∷ those p xs) (those p xs)
+  unfoldable pub filter : (E → Bool) → List E → List E
+  filter p [] = []
+  filter p (x ∷ xs) = cond (p x) (x ∷ filter p xs) (filter p xs)
 
   unfoldable pub sumOf : (E → ℕ) → List E → ℕ
   sumOf f [] = 0
   sumOf f (x ∷ xs) = f x + sumOf f xs
-
-  -- the texts of the entries, one after the other
-  unfoldable pub joined : (E → Bytes) → List E → Bytes
-  joined f [] = []
-  joined f (x ∷ xs) = f x ++ joined f xs
 
   -- SETS. The entry that has the key
   unfoldable pub lookup : (E → Key) → Key → List E → Option E
@@ -87,10 +82,10 @@ module _ {E : Type 0} where
   Each P (x ∷ xs) = P x × Each P xs
 
   -- of every two entries, the earlier one first
-  abbrev pub Pairs : (E → E → Type 0) → List E → Type 0
-  Pairs R [] = Unit {0}
-  Pairs R (x ∷ xs) = Each (R x) xs × Pairs R xs
+  abbrev pub AllPairs : (E → E → Type 0) → List E → Type 0
+  AllPairs R [] = Unit {0}
+  AllPairs R (x ∷ xs) = Each (R x) xs × AllPairs R xs
 
   -- strictly in the order of the keys: so no key stands there twice
   abbrev pub Sorted : (E → Key) → List E → Type 0
-  Sorted key xs = Pairs (λ (x y : E). before (key x) (key y) ≡ true) xs
+  Sorted key xs = AllPairs (λ (x y : E). before (key x) (key y) ≡ true) xs

@@ -3,14 +3,14 @@
 use Prim.Native.Nat.{ℕ, _+_, _-_}
 use Prim.Native.Char.{code}
 use mathlib.Core.Bool.{Bool, not, _&&_, cond}
-use mathlib.Core.List.{List, [], _∷_, _++_}
+use mathlib.Core.List.{List, [], _∷_, _++_, flatMap}
 use mathlib.Core.Option.{Option, none, some}
 use lib.Dec.{ltb}
 use lib.ListN.{length, drop, replicate}
 use Rattle.chars.specs.Bytes.{ascii}
 use Rattle.chars.specs.Lists.{isEmpty, same, split}
 use Rattle.names.specs.Numbers.{digits}
-use Rattle.model.specs.Sets.{Bytes, joined}
+use Rattle.model.specs.Sets.{Bytes}
 use Rattle.model.specs.Package.{Item, State, empty, content, spelling, parts, mediaTypeOf}
 use Rattle.model.specs.Texts.{lineFeed, line}
 use Rattle.model.specs.Calls.{Change, PutItem, DropItem, PutDefault, PutOverride, change}
@@ -77,7 +77,7 @@ partLine S g =
 
 -- "L prints for each part in folded order"
 unfoldable pub listing : State → Bytes
-listing S = joined (partLine S) (parts (S .items))
+listing S = flatMap (partLine S) (parts (S .items))
 
 -- "Each but L prints the refusal, or 0, in 3 columns, right-justified."
 abbrev pub numberLine : ℕ → Bytes

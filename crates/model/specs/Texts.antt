@@ -4,11 +4,11 @@ use Prim.Native.Nat.{ℕ}
 use Prim.Native.Char.{code}
 use Prim.Native.String.{String}
 use mathlib.Core.Bool.{cond}
-use mathlib.Core.List.{List, [], _∷_, _++_}
+use mathlib.Core.List.{List, [], _∷_, _++_, flatMap}
 use lib.Dec.{eqb}
 use Rattle.chars.specs.Bytes.{ascii}
 use Rattle.chars.specs.Folding.{equivalent}
-use Rattle.model.specs.Sets.{Bytes, those, joined}
+use Rattle.model.specs.Sets.{Bytes, filter}
 use Rattle.model.specs.Package.{State, Default, Override, Relationship}
 
 -- "XML lines, each with LF"
@@ -26,7 +26,7 @@ abbrev pub quotedByte : ℕ → Bytes
 quotedByte b = cond (eqb b ampersand) (ascii "&amp;") (b ∷ [])
 
 unfoldable pub quoted : Bytes → Bytes
-quoted s = joined quotedByte s
+quoted s = flatMap quotedByte s
 
 -- ` NAME="VALUE"`
 abbrev pub attribute : String → Bytes → Bytes
@@ -48,8 +48,8 @@ unfoldable pub typesText : State → Bytes
 typesText S =
     declaration
     ++ (line (ascii "<Types xmlns=\"http://schemas.openxmlformats.org/package/2006/content-types\">")
-    ++ (joined defaultLine (S .defaults)
-    ++ (joined overrideLine (S .overrides)
+    ++ (flatMap defaultLine (S .defaults)
+    ++ (flatMap overrideLine (S .overrides)
     ++ line (ascii "</Types>"))))
 
 -- "with ` TargetMode="External"` before `/>` in mode 1"
@@ -69,11 +69,11 @@ relationshipLine r =
 
 -- the "relationships of a source", "by id bytes": the order of the set within a source
 abbrev pub ofSource : Bytes → List Relationship → List Relationship
-ofSource s rs = those (λ (r : Relationship). equivalent (r .source) s) rs
+ofSource s rs = filter (λ (r : Relationship). equivalent (r .source) s) rs
 
 unfoldable pub relationshipsText : Bytes → State → Bytes
 relationshipsText s S =
     declaration
     ++ (line (ascii "<Relationships xmlns=\"http://schemas.openxmlformats.org/package/2006/relationships\">")
-    ++ (joined relationshipLine (ofSource s (S .relationships))
+    ++ (flatMap relationshipLine (ofSource s (S .relationships))
     ++ line (ascii "</Relationships>")))

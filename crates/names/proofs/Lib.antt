@@ -5,6 +5,6 @@ pub mod Reserved
 pub mod IriParts
 pub mod NameBytes
 pub mod Spelling
-pub mod Lengths
 pub mod NameEnds
+pub mod Lengths
 pub mod FoldedNames

@@ -13,8 +13,9 @@ use Rattle.model.specs.Calls.{Call, Find, View, Totals, Start, Looks, Changes, 
 use Rattle.store.specs.Packages.{isPackage}
 use Rattle.store.proofs.PackageTest.{package-short, package-zeros}
 use Rattle.contract.specs.Ran.{Ran, noPackage, starts}
-use Rattle.contract.proofs.Rans.{is-package, start-small}
+use Rattle.contract.proofs.Opening.{is-package}
 use Rattle.package.specs.Demand.{EveryCall, EveryTest}
+use Rattle.contract.proofs.Rans.{start-small}
 
 no-package-few : (c : Call) → noPackage c .number ≤ 16
 no-package-few (Start C) = omega arith

@@ -10,10 +10,10 @@ use borrow.Author.Tests.{eqb-true, eqb-false}
 use Rattle.output.specs.Answers.{Answer}
 use Rattle.chars.specs.declared.folding.Order.{Order}
 use Rattle.chars.specs.declared.folding.Order.the-variants.{Less, Equal, Greater}
-use Rattle.model.specs.Sets.{Key, keyOrder, isLess, isEqual}
-use Rattle.model.specs.Package.{State, empty, itemLimit, defaultLimit, overrideLimit, relationshipLimit, keyOfItem, keyOfDefault, keyOfOverride, keyOfRelationship, charge}
+use Rattle.model.specs.Sets.{keyOrder, isLess, isEqual}
+use Rattle.model.specs.Package.{State, Kind, itemKind, defaultKind, overrideKind, relationshipKind, empty, charge}
 use Rattle.model.specs.Calls.{Call, startRefusal, step, answers, after, look}
-use Rattle.model.specs.Good.{Good, GoodSet, Beside, fieldsOfItem, fieldsOfDefault, fieldsOfOverride, fieldsOfRelationship}
+use Rattle.model.specs.Good.{Good, GoodSet, Beside}
 use Rattle.model.proofs.Lists.{pairs-map}
 use Rattle.contract.specs.Holds.{Holds}
 use Rattle.contract.specs.Ran.{Runs, none, more}
@@ -24,8 +24,11 @@ less-differs Less e = refl
 less-differs Equal e = absurd (false≢true e)
 less-differs Greater e = refl
 
-good-limited : {E : Type 0} (key : E → Key) (limit : ℕ) (fields : E → ℕ) (xs : List E) → GoodSet key limit fields xs → Limited key limit xs
-good-limited key limit fields xs g = record { few = g .few; single = pairs-map _ _ xs (λ x y b. less-differs (keyOrder (key x) (key y)) b) (g .sorted) }
+good-limited : {E : Type 0} (kind : Kind E) (xs : List E) → GoodSet kind xs → Limited (kind .key) (kind .limit) xs
+good-limited kind xs g = record {
+  few = g .few;
+  single = pairs-map _ _ xs (λ x y b. less-differs (keyOrder (kind .key x) (kind .key y)) b) (g .sorted);
+}
 
 good-demanded : (S : State) → Good S → Demanded S
 unfolding look charge
@@ -34,10 +37,10 @@ good-demanded S g = record {
   numbered = pairs-map Beside _ (S .items) (λ i j b. b .numbered) (g .beside);
   underived = pairs-map Beside _ (S .items) (λ i j b. b .underived) (g .beside);
   totals = λ room. refl;
-  items = good-limited keyOfItem itemLimit fieldsOfItem (S .items) (g .items);
-  defaults = good-limited keyOfDefault defaultLimit fieldsOfDefault (S .defaults) (g .defaults);
-  overrides = good-limited keyOfOverride overrideLimit fieldsOfOverride (S .overrides) (g .overrides);
-  relationships = good-limited keyOfRelationship relationshipLimit fieldsOfRelationship (S .relationships) (g .relationships);
+  items = good-limited itemKind (S .items) (g .items);
+  defaults = good-limited defaultKind (S .defaults) (g .defaults);
+  overrides = good-limited overrideKind (S .overrides) (g .overrides);
+  relationships = good-limited relationshipKind (S .relationships) (g .relationships);
   within = g .within;
 }
 

@@ -7,7 +7,7 @@ use mathlib.Core.Bool.{true, false}
 use mathlib.Core.List.{List, [], _∷_, map}
 use lib.ListN.{length, getD}
 use Rattle.output.specs.Answers.{Answer, answer}
-use Rattle.model.specs.Sets.{Key, sameKey, sumOf, Pairs}
+use Rattle.model.specs.Sets.{Key, sameKey, sumOf, AllPairs}
 use Rattle.model.specs.Package.{State, empty, itemLimit, defaultLimit, overrideLimit, relationshipLimit, keyOfItem, keyOfDefault, keyOfOverride, keyOfRelationship, itemCharge, defaultCharge, overrideCharge, relationshipCharge, charge, parts}
 use Rattle.model.specs.Calls.{Call, Start, Looks, Totals, step, answers, after, lent}
 use Rattle.model.specs.Good.{Alone, Distinct, Underived}
@@ -30,16 +30,16 @@ pub record EveryTest : Type 0 where
 module _ {E : Type 0} (key : E → Key) (limit : ℕ) where
   pub record Limited (xs : List E) : Type 0 where
     pub few : length xs ≤ limit
-    pub single : Pairs (λ (x y : E). sameKey (key x) (key y) ≡ false) xs
+    pub single : AllPairs (λ (x y : E). sameKey (key x) (key y) ≡ false) xs
 
 -- what demand 3 says of the abstract package after every list, the first three of every two held items; and what the ledger's text says of its sets
 pub record Demanded (S : State) : Type 0 where
   -- "a held whole item's name is equivalent to no other held item's prefix"
-  pub alone : Pairs Alone (S .items)
+  pub alone : AllPairs Alone (S .items)
   -- "No piece number stands twice in a group"
-  pub numbered : Pairs Distinct (S .items)
+  pub numbered : AllPairs Distinct (S .items)
   -- "no held item's prefix is derivable from another's"
-  pub underived : Pairs Underived (S .items)
+  pub underived : AllPairs Underived (S .items)
   -- "The charge that totals then reports is the sum over the ledger's entries."
   pub totals : (room : ℕ) → step room S (Looks Totals) .0
       ≡ answer 0

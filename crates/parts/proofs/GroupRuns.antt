@@ -10,7 +10,7 @@ use lib.ListN.{length, getD, drop, length-drop, drop-of-length-le}
 use lib.Seq.{length-take-le, getD-take, getD-drop}
 use Rattle.chars.specs.Folding.{fold, equivalent, order}
 use Rattle.chars.proofs.Equivalence.{equivalent-fold, fold-equivalent}
-use Rattle.model.specs.Sets.{Bytes, before, any, Each, Pairs, Sorted}
+use Rattle.model.specs.Sets.{Bytes, before, any, Each, AllPairs, Sorted}
 use Rattle.model.specs.Places.{firstWhere, bound, lead}
 use Rattle.model.specs.Fields.{prefixOf}
 use Rattle.model.specs.Package.{noItem, Item, State, rank, keyOfItem, completeFrom, isPart, disagrees}
@@ -42,7 +42,7 @@ module _ (p : Bytes) (g : List Item) (a : Each (λ (i : Item). inGroup p i ≡ t
       (λ i j e. number-less (rank (mark i)) (rank (mark j)) (goes-on-less (keyOfItem i) (keyOfItem j) (e .1) (same-prefix i j (e .0))))
       (pairs-both (λ (i j : Item). (inGroup p i ≡ true) × (inGroup p j ≡ true)) (λ (i j : Item). before (keyOfItem i) (keyOfItem j) ≡ true) g (pairs-each (λ (i : Item). inGroup p i ≡ true) g a) s)
 
-  run-agreeing : Pairs Beside g → Agreeing g
+  run-agreeing : AllPairs Beside g → Agreeing g
   run-agreeing s =
       pairs-map (λ (i j : Item). ((inGroup p i ≡ true) × (inGroup p j ≡ true)) × Beside i j) (λ (i j : Item). disagrees (mark i) (mark j) ≡ false) g
       (λ i j e. e .1 .agreeing (fold-equivalent (prefixOf (i .name)) (prefixOf (j .name)) (same-prefix i j (e .0))))
@@ -101,7 +101,7 @@ module _ (b : List ℕ) (f t : ℕ) where
         (eu (h .lies .sound .shape) (omega (arith, items-le b S h)) ∙ item-tag b S h (t - 1) (omega arith) ∙ ap (λ (i : Item). tagIn i) (sym at));
   }
     where
-      part-of-pairs : (R : Item → Item → Type 0) (xs : List Item) → Pairs R xs → Pairs R (run f t xs)
+      part-of-pairs : (R : Item → Item → Type 0) (xs : List Item) → AllPairs R xs → AllPairs R (run f t xs)
       part-of-pairs R xs h = pairs-take R (t - f) (drop f xs) (pairs-drop R f xs h)
 
 -- THE GROUP OF A PREFIX

@@ -11,7 +11,7 @@ use borrow.Author.Tests.{eqb-true, eq-eqb, ne-eqb}
 use Rattle.names.specs.declared.items.Suffix.{Suffix}
 use Rattle.names.specs.declared.items.Suffix.the-variants.{Whole, Piece}
 use Rattle.base.proofs.Bools.{and-false}
-use Rattle.model.specs.Sets.{any, Pairs}
+use Rattle.model.specs.Sets.{any, AllPairs}
 use Rattle.model.specs.Fields.{suffixOf, whole, last}
 use Rattle.model.specs.Package.{noItem, Item, rank, completeFrom, isPart, disagrees}
 use Rattle.model.proofs.Lists.{each-at}
@@ -26,10 +26,10 @@ abbrev pub tagIn : Item → ℕ
 tagIn i = tagOf (mark i)
 
 abbrev pub Numbered : List Item → Type 0
-Numbered g = Pairs (λ (i j : Item). rank (mark i) < rank (mark j)) g
+Numbered g = AllPairs (λ (i j : Item). rank (mark i) < rank (mark j)) g
 
 abbrev pub Agreeing : List Item → Type 0
-Agreeing g = Pairs (λ (i j : Item). disagrees (mark i) (mark j) ≡ false) g
+Agreeing g = AllPairs (λ (i j : Item). disagrees (mark i) (mark j) ≡ false) g
 
 -- the last item of i and those after it
 abbrev end : Item → List Item → Item

@@ -3,16 +3,18 @@
 use Prim.Native.Nat.{ℕ, suc, _+_, _-_, _^_, _≤_, _<_, min}
 use mathlib.Core.Path.{_≡_, refl, ap, sym, _∙_, subst}
 use mathlib.Core.Bool.{Bool, true, false}
-use mathlib.Core.List.{List, [], _∷_, _++_, append-assoc, append-nil}
+use mathlib.Core.List.{List, [], _∷_, _++_, append-assoc, flatMap, append-nil}
+use native.Mathlib.Nat.{zero-add}
 use native.Mathlib.Omega.{arith}
 use native.Mathlib.Numerals.{add-one}
 use lib.Dec.{leb}
 use lib.ListN.{length, getD, take, drop, length-take, length-drop, length-append, drop-of-length-le}
 use lib.Seq.{take-all, take-nil, drop-nil, drop-cons}
 use borrow.Author.Tests.{leb-true, leb-false}
+use Rattle.output.specs.Answers.{answer, written, Text}
 use Rattle.output.specs.Sends.{Sent}
 use Rattle.output.proofs.Sending.{sent-none, sent-more}
-use Rattle.model.specs.Sets.{joined}
+use Rattle.output.proofs.Answering.{answer-bytes}
 use Rattle.model.specs.Package.{noItem, Item, State, content}
 use Rattle.model.proofs.Contents.{read-piece}
 use Rattle.base.specs.Buffer.{splice}
@@ -65,7 +67,7 @@ module _ (b : List ℕ) (f t offset : ℕ) (out : List ℕ) where
     -- one row more
     pub copying-more : i < t → (piece : List ℕ) → (Sound b → i < countOf b → piece ≡ fieldOf (rowAt b i) 2) → (next : ℕ) (out'' : List ℕ) →
         Sent out' at (take (length out' - at) (drop skip piece)) next out'' → (left : ℕ) → left ≡ skip - length piece → Copying b f t offset out (i + 1) next left out''
-    unfolding content joined
+    unfolding content flatMap
     copying-more l piece ep next out'' s left el =
         let x = take (length out' - at) (drop skip piece) in
         let lx : length x ≡ min (length out' - at) (length (drop skip piece)) = length-take (length out' - at) (drop skip piece) in
@@ -93,7 +95,7 @@ module _ (b : List ℕ) (f t offset : ℕ) (out : List ℕ) where
     copied-full l = all-copied (λ S. let z : length out - at ≡ 0 = omega arith in rw z)
 
     pub copied-end : t ≤ i → Copied b f t offset out at out'
-    unfolding content joined
+    unfolding content flatMap
     copied-end l = all-copied (λ S. let z : t - i ≡ 0 = omega arith in rw (z, drop-nil skip, take-nil (length out - at)))
 
 -- HOW LONG IT IS
@@ -103,7 +105,7 @@ module _ (b : List ℕ) (f t : ℕ) where
 
   module _ (i n : ℕ) (w : Measuring b f t i n) where
     pub measuring-more : i < t → (piece : List ℕ) → length piece < 2 ^ 32 → (Sound b → i < countOf b → piece ≡ fieldOf (rowAt b i) 2) → Measuring b f t (i + 1) (n + length piece)
-    unfolding content joined
+    unfolding content flatMap
     measuring-more l piece k ep = record {
       few = omega (arith, w .few);
       is = λ S h m.
@@ -114,7 +116,7 @@ module _ (b : List ℕ) (f t : ℕ) where
     }
 
     pub measured-end : t ≤ i → Measured b f t n
-    unfolding content joined
+    unfolding content flatMap
     measured-end l = record {
       is = λ S h m.
           let z : t - i ≡ 0 = omega arith in

@@ -19,11 +19,12 @@ use Rattle.model.specs.Calls.{Totals, ReadPart, PartAt, Looks, Prints, look, pr
 use Rattle.model.proofs.Parts.{parts-few}
 use Rattle.store.specs.Layout.{usedOf, countOf}
 use Rattle.store.specs.Rows.{rowAt, fieldOf}
-use Rattle.store.specs.Packages.{Sound, isPackage}
+use Rattle.store.specs.Packages.{Sound}
 use Rattle.contract.specs.Holds.{Holds}
 use Rattle.contract.specs.Searches.{Counted}
 use Rattle.model.proofs.Numbers.{numbered, zero-numbered}
 use Rattle.contract.specs.Ran.{Ran}
+use Rattle.contract.specs.Opening.{Open}
 use Rattle.contract.proofs.Rans.{looked, wrote}
 use Rattle.contract.proofs.RowCharges.{used-charge}
 use Rattle.contract.proofs.ItemRows.{items-le}
@@ -33,7 +34,7 @@ use Rattle.parts.specs.Copies.{taken, Copied}
 use Rattle.parts.proofs.GroupRuns.{part-of}
 use Rattle.parts.proofs.TextAnswers.{text-refused, text-answered}
 
-module _ (b : List ℕ) (o : isPackage b ≡ true) where
+module _ (b : List ℕ) (o : Open b) where
   module _ (n : ℕ) (c : Counted b n) where
     -- "totals: how many items are held, how many groups are a part, the charge"
     pub totals-done : (i m : ℕ) → Walked b n n i m → (u : ℕ) → u ≡ usedOf b → Ran (Looks Totals) b (answer 0 (n ∷ m ∷ u ∷ []) []) b

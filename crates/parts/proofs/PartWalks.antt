@@ -11,7 +11,7 @@ use lib.ListN.{length, getD, take, drop, drop-of-length-le, length-drop}
 use lib.Seq.{drop-cons, drop-drop}
 use borrow.Author.Tests.{eqb-true, eqb-false}
 use Rattle.base.proofs.Bools.{and-left, and-right}
-use Rattle.model.specs.Sets.{Bytes, before, Each, Sorted, those}
+use Rattle.model.specs.Sets.{Bytes, before, Each, Sorted, filter}
 use Rattle.model.specs.Fields.{prefixOf}
 use Rattle.model.specs.Package.{noItem, Item, State, keyOfItem, isPart, leaders, parts, spelling}
 use Rattle.model.proofs.Lists.{pairs-drop}
@@ -38,7 +38,7 @@ module _ {E : Type 0} where
   drop-none l m h e = omega (arith, length-drop m l, ap length e)
 
 pub parts-none : parts [] ≡ []
-unfolding parts leaders those
+unfolding parts leaders filter
 parts-none = refl
 
 -- ONE GROUP MORE. q is the prefix in row i, e the end of its group, z whether that is a part

@@ -12,9 +12,9 @@ use Rattle.output.proofs.Answering.{answer-kept, filled-number}
 use Rattle.model.specs.Package.{State}
 use Rattle.model.specs.Calls.{Print, Prints, Numbered, printed, valueCount}
 use Rattle.model.proofs.Numbers.{numbered, zero-numbered}
-use Rattle.store.specs.Packages.{isPackage}
 use Rattle.contract.specs.Holds.{Holds}
 use Rattle.contract.specs.Ran.{Ran}
+use Rattle.contract.specs.Opening.{Open}
 use Rattle.contract.proofs.Rans.{wrote}
 
 -- a text that is written, or too long
@@ -24,7 +24,7 @@ text-numbered count out t vs a e =
     (⊎-elim (λ z. subst Numbered (sym z) zero-numbered) (λ z. subst Numbered (sym z) (numbered 3 (omega arith) (omega arith)))
     (filled-number count out t vs))
 
-module _ (b : List ℕ) (t : isPackage b ≡ true) (w : Print) (v : valueCount w ≡ 1) (out : List ℕ) where
+module _ (b : List ℕ) (t : Open b) (w : Print) (v : valueCount w ≡ 1) (out : List ℕ) where
   pub text-refused : (n : ℕ) → Numbered n → ((S : State) → Holds b S → printed S (length out) w ≡ Refused n) → Ran (Prints w out) b (answer n (0 ∷ []) out) b
   unfolding filled
   text-refused n u e = wrote b t w out (answer n (0 ∷ []) out) u (λ _. refl) (λ S h. rw (e S h, v))

@@ -1,10 +1,9 @@
 // The parts in folded order: a walk over them, and the part at a position.
 use crate::runs::makes_part;
 use crate::runs::own_end;
+use contract::gate::opened;
 use contract::search::item_count;
 use output::writing::Written;
-use output::writing::put_text;
-use store::header::is_package;
 use store::rows::field;
 ghost use mathlib.Core.Path.{_≡_};
 ghost use mathlib.Core.Bool.{cond};
@@ -53,8 +52,9 @@ pub(crate) fn walk(pkg: &[u8], n: usize, position: u64) -> Stop
 pub fn part_at(pkg: &[u8], position: u64, out: &mut [u8]) -> Written
     ensures { λ r. ⌜ Ran (Call.Prints (Print.PartAt position) (now (out .entry))) (now (pkg .entry)) (ofWritten r (now (out .exit))) (now (pkg .entry)) ⌝ }
 {
-    if !is_package(pkg) {
-        return Written::Refused(1);
+    let k = opened(pkg);
+    if k != 0 {
+        return Written::Refused(k);
     }
     let n = item_count(pkg);
     let stop = walk(pkg, n, position);

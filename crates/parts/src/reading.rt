@@ -2,9 +2,9 @@
 use crate::copying::copy_rest;
 use crate::runs::find_group;
 use crate::runs::makes_part;
+use contract::gate::opened;
 use names::parts::is_part_name;
 use output::writing::Written;
-use store::header::is_package;
 use store::rows::field;
 ghost use mathlib.Core.Path.{_≡_};
 ghost use Prim.Native.Nat.{_-_, _≤_};
@@ -61,8 +61,9 @@ pub fn content_length(pkg: &[u8], from: usize, to: usize) -> usize
 pub fn read_part(pkg: &[u8], name: &[u8], offset: u64, out: &mut [u8]) -> Written
     ensures { λ r. ⌜ Ran (Call.Prints (Print.ReadPart (now (name .entry)) offset) (now (out .entry))) (now (pkg .entry)) (ofWritten r (now (out .exit))) (now (pkg .entry)) ⌝ }
 {
-    if !is_package(pkg) {
-        return Written::Refused(1);
+    let k = opened(pkg);
+    if k != 0 {
+        return Written::Refused(k);
     }
     if !is_part_name(name) {
         return Written::Refused(4);

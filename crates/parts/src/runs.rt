@@ -1,5 +1,6 @@
 // The rows of a group, and whether it is a part.
 use chars::folding::is_equivalent;
+use contract::ITEMS;
 use contract::search::bound;
 use contract::search::item_count;
 use store::rows::field;
@@ -16,12 +17,15 @@ pub struct Run {
     pub to: usize,
 }
 
-// Where the items of the group p end, if the row before row e is one of them, by halving: no item has so great a number as is asked for.
+// A tag whose number no item has: it is greater.
+const PAST_TAG: usize = 65534;
+
+// Where the items of the group p end, if the row before row e is one of them, by halving.
 fn end_behind(pkg: &[u8], e: usize, n: usize, p: &[u8]) -> usize
     requires { ⌜ (countOf (now pkg) ≤ slotCount) × (e ≤ n) ⌝ }
     ensures { λ r. ⌜ EndedBehind (now (pkg .entry)) e n (now (p .entry)) r ⌝ }
 {
-    let r = bound(pkg, 0, p, 65534, b"");
+    let r = bound(pkg, ITEMS, p, PAST_TAG, b"");
     if r <= e {
         return e;
     }
@@ -83,7 +87,7 @@ pub(crate) fn find_group(pkg: &[u8], p: &[u8]) -> Run
     ensures { λ r. ⌜ Grouped (now (pkg .entry)) (now (p .entry)) (r .from) (r .to) ⌝ }
 {
     let n = item_count(pkg);
-    let from = bound(pkg, 0, p, 0, b"");
+    let from = bound(pkg, ITEMS, p, 0, b"");
     let to = group_end(pkg, from, n, p);
     Run { from, to }
 }

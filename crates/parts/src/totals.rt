@@ -1,8 +1,8 @@
 // The totals.
 use crate::positions::walk;
 use contract::answers::Totalled;
+use contract::gate::opened;
 use contract::search::item_count;
-use store::header::is_package;
 use store::header::used;
 ghost use Rattle.model.specs.Calls.{Call, Look};
 ghost use Rattle.contract.specs.Answers.{ofTotalled};
@@ -12,8 +12,9 @@ ghost use Rattle.contract.specs.Ran.{Ran};
 pub fn totals(pkg: &[u8]) -> Totalled
     ensures { λ r. ⌜ Ran (Call.Looks Look.Totals) (now (pkg .entry)) (ofTotalled r) (now (pkg .entry)) ⌝ }
 {
-    if !is_package(pkg) {
-        return Totalled::Refused(1);
+    let k = opened(pkg);
+    if k != 0 {
+        return Totalled::Refused(k);
     }
     let n = item_count(pkg);
     let all = walk(pkg, n, n as u64);

@@ -3,8 +3,8 @@
 use Prim.Native.Nat.{ℕ, _+_, _≤_, _<_}
 use mathlib.Core.Path.{_≡_, refl, ap, sym, _∙_, subst}
 use mathlib.Core.Bool.{Bool, true, false, not}
-use mathlib.Core.List.{List, [], _∷_}
-use mathlib.Core.Option.{Option, none, some}
+use mathlib.Core.List.{List, [], _∷_, _++_}
+use mathlib.Core.Option.{Option, none, some, Option·none-ne-some, Option·some-injective}
 use native.Mathlib.Omega.{arith}
 use lib.Dec.{eqb}
 use lib.ListN.{length, take}
@@ -14,7 +14,7 @@ use Rattle.chars.specs.Bytes.{numberSign}
 use Rattle.chars.specs.Lists.{indexOf}
 use Rattle.chars.proofs.Searches.{index-le}
 use Rattle.names.specs.Iris.{packageIri}
-use Rattle.output.specs.Answers.{Answer, answer, Text, Refused, filled}
+use Rattle.output.specs.Answers.{Answer, answer, Text, Refused, filled, choose}
 use Rattle.iri.specs.References.{resolve}
 use Rattle.targets.specs.Targets.{resolvePath}
 use Rattle.pack.specs.Pack.{unfragmented, packIri}
@@ -25,42 +25,41 @@ use Rattle.names.proofs.Lengths.{package-few}
 use Rattle.output.proofs.Answering.{refusing-is, fitted-short, fitted-bytes, answer-kept}
 use Rattle.model.specs.Sets.{Bytes, lookup}
 use Rattle.model.specs.Fields.{when, first, sourceField, idField, packageField}
-use Rattle.model.specs.Package.{State, Relationship, relationshipKey, keyOfRelationship, group, isPart}
+use Rattle.model.specs.Package.{relationshipKind, State, Relationship, relationshipKey, keyOfRelationship, group, isPart}
 use Rattle.model.specs.Calls.{Prints, ResolveRelationship, Numbered, flag, resolved, printed, withRelationships}
-use Rattle.model.specs.Good.{fieldsOfRelationship}
 use Rattle.model.proofs.Numbers.{numbered, zero-numbered, resolve-fields-numbered}
-use Rattle.model.proofs.Refusals.{all-none, unmet}
-use Rattle.model.proofs.Lookups.{none-some, some-eq, lookup-each}
+use Rattle.model.proofs.Refusals.{first-one, first-front, first-past, all-none, unmet}
+use Rattle.model.proofs.Lookups.{lookup-each}
 use Rattle.model.proofs.Targets.{fielded, target-size}
 use Rattle.store.specs.Layout.{countOf}
 use Rattle.store.specs.Rows.{Row, rowAt, tagAt, rowsOf, fieldOf}
-use Rattle.store.specs.Packages.{Shape, Sound, isPackage}
-use Rattle.contract.specs.Rows.{keyIn, rowKey, relationshipRow}
+use Rattle.store.specs.Packages.{Shape, Sound}
+use Rattle.contract.specs.Rows.{second, keyIn, rowKey, relationshipRow, relationshipRows}
 use Rattle.contract.specs.Holds.{Holds}
 use Rattle.contract.specs.Entries.{Sought}
 use Rattle.contract.specs.Ran.{Ran}
+use Rattle.contract.specs.Opening.{Open}
 use Rattle.contract.proofs.Rans.{wrote}
 use Rattle.contract.proofs.FieldSizes.{source-size}
-use Rattle.contract.proofs.FirstRefusals.{first-one}
 use Rattle.contract.proofs.RowOrders.{holds-ordered}
 use Rattle.contract.proofs.RowEntries.{row-here, row-none}
 use Rattle.contract.proofs.SetRows.{rowFor}
-use Rattle.contract.proofs.SetStates.{found-row, relationships-among}
+use Rattle.contract.proofs.RowKinds.{relationship-rows}
+use Rattle.contract.proofs.SetStates.{found-row}
 use Rattle.parts.specs.Runs.{PartOf}
 use Rattle.parts.proofs.TextAnswers.{text-numbered}
 use Rattle.relationships.specs.Resolutions.{ofResolution, LedTo, RowResolved}
 use Rattle.relationships.specs.declared.resolving.Resolution.the-variants as resolution
-use Rattle.relationships.proofs.RelationshipCalls.{first-of-two, first-past-two, key-is}
 
 -- WHAT IS ASKED FOR; k is the key's refusal
 module _ (s i b : Bytes) (k : ℕ) (ek : k ≡ first (sourceField s ∷ idField i ∷ [])) where
   pub asked-key : (k ≡ 0 → ⊥) → k ≡ first (sourceField s ∷ idField i ∷ packageField b ∷ [])
-  asked-key z = sym (first-of-two (sourceField s) (idField i) (packageField b ∷ []) k (sym ek) z)
+  asked-key z = ek ∙ sym (first-front (sourceField s ∷ idField i ∷ []) (packageField b ∷ []) (λ e. z (ek ∙ e)))
 
   module _ (z : k ≡ 0) (y : Bool) (ey : y ≡ packageIri b) where
     base-is : (t : Bool) → y ≡ t → first (sourceField s ∷ idField i ∷ packageField b ∷ []) ≡ when (not t) 9
     base-is t e =
-        first-past-two (sourceField s) (idField i) (packageField b ∷ []) (sym ek ∙ z) ∙ first-one (packageField b) ∙ ap (λ (t : Bool). when (not t) 9) (sym ey ∙ e)
+        first-past (sourceField s ∷ idField i ∷ []) (packageField b ∷ []) (sym ek ∙ z) ∙ first-one (packageField b) ∙ ap (λ (t : Bool). when (not t) 9) (sym ey ∙ e)
 
     pub asked-fine : y ≡ true → 0 ≡ first (sourceField s ∷ idField i ∷ packageField b ∷ [])
     asked-fine e = sym (base-is true e)
@@ -180,7 +179,7 @@ module _ (b : List ℕ) (i : ℕ) (li : i < countOf b) (base out t : Bytes) (et 
       }
 
 -- THE CALL; k is the refusal of what it asks for
-module _ (p : List ℕ) (o : isPackage p ≡ true) (s i base out : Bytes) (k : ℕ) (ek : k ≡ first (sourceField s ∷ idField i ∷ packageField base ∷ [])) where
+module _ (p : List ℕ) (o : Open p) (s i base out : Bytes) (k : ℕ) (ek : k ≡ first (sourceField s ∷ idField i ∷ packageField base ∷ [])) where
   pub resolve-refused : (k ≡ 0 → ⊥) → Ran (Prints (ResolveRelationship s i base) out) p (ofResolution (resolution.Refused k) out) p
   unfolding printed filled
   resolve-refused z =
@@ -201,7 +200,8 @@ module _ (p : List ℕ) (o : isPackage p ≡ true) (s i base out : Bytes) (k : �
     -- r is the row of the key
     module _ (r m : ℕ) (er : Sought p (keyIn 3 s 0 i) r) (em : m ≡ countOf p) where
       row-is : (S : State) → Holds p S → rowFor relationshipRow (sought S) ≡ lookup rowKey (keyIn 3 s 0 i) (rowsOf p)
-      row-is S h = sym (rw (key-is s i) (found-row keyOfRelationship relationshipRow 3 S (S .relationships) (withRelationships S) (relationships-among S) p h (relationshipKey s i)))
+      unfolding second
+      row-is S h = sym (found-row relationshipRows relationship-rows p S h (relationshipKey s i))
 
       pub resolve-missing : m ≤ r → Ran (Prints (ResolveRelationship s i base) out) p (ofResolution (resolution.Refused 13) out) p
       unfolding filled resolved
@@ -211,7 +211,7 @@ module _ (p : List ℕ) (o : isPackage p ≡ true) (s i base out : Bytes) (k : �
         where
           unheld : (x : Option Relationship) → rowFor relationshipRow x ≡ none → x ≡ none
           unheld none e = refl
-          unheld (some x) e = absurd (none-some (relationshipRow x) (sym e))
+          unheld (some x) e = absurd (Option·none-ne-some (relationshipRow x) (sym e))
 
       pub resolve-found : r < m → (a : Answer) → RowResolved p r base out a → Ran (Prints (ResolveRelationship s i base) out) p a p
       resolve-found l a w =
@@ -220,7 +220,7 @@ module _ (p : List ℕ) (o : isPackage p ≡ true) (s i base out : Bytes) (k : �
         where
           go : (S : State) → Holds p S → (x : Option Relationship) → sought S ≡ x → rowFor relationshipRow x ≡ some (rowAt p r)
               → a ≡ filled 3 out (printed S (length out) (ResolveRelationship s i base))
-          go S h none e f = absurd (none-some (rowAt p r) f)
+          go S h none e f = absurd (Option·none-ne-some (rowAt p r) f)
           go S h (some x) e f =
-              let g = lookup-each keyOfRelationship (λ (y : Relationship). fieldsOfRelationship y ≡ 0) (relationshipKey s i) (S .relationships) x (h .good .relationships .fielded) e in
-              w .is S h x (sym (some-eq (relationshipRow x) (rowAt p r) f)) g ∙ sym (ap (filled 3 out) (printed-is S (some x) e))
+              let g = lookup-each keyOfRelationship (λ (y : Relationship). relationshipKind .fields y ≡ 0) (relationshipKey s i) (S .relationships) x (h .good .relationships .fielded) e in
+              w .is S h x (sym (Option·some-injective (relationshipRow x) (rowAt p r) f)) g ∙ sym (ap (filled 3 out) (printed-is S (some x) e))

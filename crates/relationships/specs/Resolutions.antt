@@ -7,9 +7,8 @@ use mathlib.Core.Option.{some}
 use Rattle.output.specs.Answers.{Answer, answer, refusing, Text, filled}
 use Rattle.targets.specs.Targets.{resolvePath}
 use Rattle.pack.specs.Pack.{packIri}
-use Rattle.model.specs.Package.{Relationship, State, group, isPart}
+use Rattle.model.specs.Package.{relationshipKind, Relationship, State, group, isPart}
 use Rattle.model.specs.Calls.{Numbered, flag, resolved}
-use Rattle.model.specs.Good.{fieldsOfRelationship}
 use Rattle.store.specs.Rows.{rowAt}
 use Rattle.contract.specs.Rows.{relationshipRow}
 use Rattle.contract.specs.Holds.{Holds}
@@ -35,4 +34,4 @@ pub record LedTo (b source target base out : List ℕ) (a : Answer) : Type 0 whe
 pub record RowResolved (b : List ℕ) (i : ℕ) (base out : List ℕ) (a : Answer) : Type 0 where
   pub kept : (a .number ≡ 0 → ⊥) → a .output ≡ out
   pub numbered : Numbered (a .number)
-  pub is : (S : State) → Holds b S → (r : Relationship) → rowAt b i ≡ relationshipRow r → fieldsOfRelationship r ≡ 0 → a ≡ filled 3 out (resolved S base (some r))
+  pub is : (S : State) → Holds b S → (r : Relationship) → rowAt b i ≡ relationshipRow r → relationshipKind .fields r ≡ 0 → a ≡ filled 3 out (resolved S base (some r))

@@ -1,10 +1,13 @@
 // The calls on relationships.
+use contract::RELATIONSHIPS;
+use contract::RELATIONSHIP_LIMIT;
+use contract::RELATIONSHIP_TAG;
 use contract::answers::Did;
 use contract::entries::drop_row;
 use contract::entries::put_row;
+use contract::gate::opened;
 use names::iris::is_package_iri;
 use names::types::is_id;
-use store::header::is_package;
 use targets::targets::source_refusal;
 use targets::targets::target_refusal;
 ghost use mathlib.Core.Path.{_≡_};
@@ -58,25 +61,35 @@ pub fn put_relationship(
 ) -> Did
     ensures { λ r. ⌜ Ran (Call.Changes (Change.PutRelationship (now (source .entry)) (now (id .entry)) (now (kind .entry)) mode (now (target .entry)))) (now (pkg .entry)) (ofDid r) (now (pkg .exit)) ⌝ }
 {
-    if !is_package(pkg) {
-        return Did::Refused(1);
+    let k = opened(pkg);
+    if k != 0 {
+        return Did::Refused(k);
     }
     let k = fields_refusal(source, id, kind, mode, target);
     if k != 0 {
         return Did::Refused(k);
     }
-    put_row(pkg, 256, 32770 + mode as usize, source, id, kind, target)
+    put_row(
+        pkg,
+        RELATIONSHIP_LIMIT,
+        RELATIONSHIP_TAG + mode as usize,
+        source,
+        id,
+        kind,
+        target,
+    )
 }
 
 pub fn drop_relationship(pkg: &mut [u8], source: &[u8], id: &[u8]) -> Did
     ensures { λ r. ⌜ Ran (Call.Changes (Change.DropRelationship (now (source .entry)) (now (id .entry)))) (now (pkg .entry)) (ofDid r) (now (pkg .exit)) ⌝ }
 {
-    if !is_package(pkg) {
-        return Did::Refused(1);
+    let k = opened(pkg);
+    if k != 0 {
+        return Did::Refused(k);
     }
     let k = key_refusal(source, id);
     if k != 0 {
         return Did::Refused(k);
     }
-    drop_row(pkg, 3, source, id)
+    drop_row(pkg, RELATIONSHIPS, source, id)
 }

@@ -1,14 +1,16 @@
 // Resolving a relationship: the IRI that its target leads to.
 use crate::calls::key_refusal;
 use chars::search::find;
+use contract::EXTERNAL_TAG;
+use contract::RELATIONSHIPS;
 use contract::entries::locate;
+use contract::gate::opened;
 use iri::references::put_reference;
 use iri::references::relative_path;
 use names::iris::is_package_iri;
 use pack::pack::put_pack_iri;
 use parts::runs::is_part;
 use store::header::count;
-use store::header::is_package;
 use store::rows::field;
 use store::rows::tag;
 ghost use mathlib.Core.Path.{_≡_};
@@ -90,7 +92,7 @@ fn resolve_row(pkg: &[u8], r: usize, base: &[u8], out: &mut [u8]) -> Resolution
     if 255 < target.len() {
         return Resolution::Refused(13);
     }
-    if tag(pkg, r) == 32771 {
+    if tag(pkg, r) == EXTERNAL_TAG {
         return resolve_external(target, base, out);
     }
     let source = field(pkg, r, 0);
@@ -110,14 +112,15 @@ pub fn resolve_relationship(
 ) -> Resolution
     ensures { λ r. ⌜ Ran (Call.Prints (Print.ResolveRelationship (now (source .entry)) (now (id .entry)) (now (base .entry))) (now (out .entry))) (now (pkg .entry)) (ofResolution r (now (out .exit))) (now (pkg .entry)) ⌝ }
 {
-    if !is_package(pkg) {
-        return Resolution::Refused(1);
+    let k = opened(pkg);
+    if k != 0 {
+        return Resolution::Refused(k);
     }
     let k = asked_refusal(source, id, base);
     if k != 0 {
         return Resolution::Refused(k);
     }
-    let r = locate(pkg, 3, source, 0, id);
+    let r = locate(pkg, RELATIONSHIPS, source, 0, id);
     if r < count(pkg) {
         return resolve_row(pkg, r, base, out);
     }

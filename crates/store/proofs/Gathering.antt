@@ -49,6 +49,7 @@ pub record Gathering (b m : List ℕ) (c : ℕ) : Type 0 where
   pub count : countOf m ≡ countOf b
   pub cap : capOf m ≡ capOf b
   pub end : endOf m ≡ endOf b
+  pub format : formatOf m ≡ formatOf b
   pub split : (i : ℕ) → i < countOf m → (offOf (slotOf m i) + sizeOf (slotOf m i) ≤ c) ⊎ (c ≤ offOf (slotOf m i))
   pub filled : c ≡ sum (countOf m) (lying m c)
 
@@ -60,6 +61,7 @@ gather-none b so = record {
   count = refl;
   cap = refl;
   end = refl;
+  format = refl;
   split = λ i h. inr (omega arith);
   filled = sym (sum-zero (countOf b) (lying b 0) (λ i h. lying-above b 0 i (omega (arith, so .filled i h))));
 }
@@ -134,6 +136,7 @@ module _ (b l m : List ℕ) (n c e r k : ℕ) (g : Gathering b l c) (en : n ≡ 
         count = move .count ∙ g .count;
         cap = move .cap ∙ g .cap;
         end = move .end ∙ g .end;
+        format = move .format ∙ g .format;
         split = λ i h. let q : i < countOf l = omega arith in
             ⊎-elim (λ a. rw a (inl (omega (arith, move .place, move .size, size))))
             (λ ne. rw (move .others i q ne) (⊎-elim (λ z. inl (omega arith)) (λ z. inr (omega (arith, above))) (clear i q ne))) (same-or-other i r);
@@ -187,7 +190,6 @@ module _ (b l m : List ℕ) (n c e r : ℕ) (g : Gathering b l c) (en : n ≡ co
       record {
         sound = record {
           marked = kind .0 ∙ so .marked;
-          format = kind .1 ∙ so .format;
           shape = record {
             few = omega (arith, count-kept, so .shape .few);
             room = omega (arith, cap-kept, so .shape .room, p .len);
@@ -205,15 +207,23 @@ module _ (b l m : List ℕ) (n c e r : ℕ) (g : Gathering b l c) (en : n ≡ co
         };
         rows = rows-kept ∙ g .rows;
         cap = cap-kept ∙ g .cap;
+        format = kind .1 ∙ g .format;
         end = omega (arith, new-end, all-used, used-kept);
       }
 
 -- the free place: at the end as it is, or once the rows are gathered
 pub place-here : (b : List ℕ) (k e h : ℕ) → e ≡ endOf b → h ≡ heapSize b → e + k ≤ h → Sound b → Placed b b k e
-place-here b k e h ee eh q so = record { sound = so; rows = refl; cap = refl; end = ee; fits = λ z. omega arith }
+place-here b k e h ee eh q so = record { sound = so; rows = refl; cap = refl; format = refl; end = ee; fits = λ z. omega arith }
 
 pub place-gathered : (b m : List ℕ) (k e : ℕ) → length m ≡ length b → e ≡ endOf m → (Sound b → Gathered b m) → Sound b → Placed b m k e
 place-gathered b m k e len ee f so =
     let g = f so in
     let u : usedOf m ≡ usedOf b = sym (g .sound .exact) ∙ ap total (g .rows) ∙ so .exact in
-    record { sound = g .sound; rows = g .rows; cap = g .cap; end = ee; fits = λ z. omega (arith, g .end, u, so .shape .room, so .shape .small) }
+    record {
+      sound = g .sound;
+      rows = g .rows;
+      cap = g .cap;
+      format = g .format;
+      end = ee;
+      fits = λ z. omega (arith, g .end, u, so .shape .room, so .shape .small);
+    }

@@ -179,7 +179,6 @@ module _ (b b1 b2 b3 b4 : List ℕ) (n u a r t : ℕ) (f0 f1 f2 f3 : List ℕ)
   inserted = record {
     sound = record {
       marked = ins-kind .0 ∙ so .marked;
-      format = ins-kind .1 ∙ so .format;
       shape = record {
         few = omega (arith, ins-count);
         room = omega (arith, ins-cap, so .shape .room);
@@ -195,6 +194,7 @@ module _ (b b1 b2 b3 b4 : List ℕ) (n u a r t : ℕ) (f0 f1 f2 f3 : List ℕ)
     };
     rows = insert-rows;
     cap = ins-cap;
+    format = ins-kind .1;
   }
 
 -- b is the package at entry, l once the free place a for k bytes is found; n and u are as the code has read them
@@ -226,4 +226,9 @@ module _ (b l : List ℕ) (n u a r k : ℕ) (ro : Room b r k) (en : n ≡ countO
       let e4' : b4 ≡ splice b3 12 (le4 (n + 1) ++ (le4 (u + size f0 f1 f2 f3) ++ le4 (a + size f0 f1 f2 f3))) = rw ek at e4 in
       let p4 = write b3 b4 12 12 _ e4' (counts-size (n + 1) (u + size f0 f1 f2 f3) (a + size f0 f1 f2 f3)) (omega arith) in
       let w = inserted l b1 b2 b3 b4 n u a r t f0 f1 f2 f3 (pl .sound) same-count same-used (sym (pl .end)) (omega arith) (omega arith) (omega (arith, pl .cap)) (omega arith) (omega arith) pos ht p1 p2 p3 p4 in
-      record { sound = w .sound; rows = w .rows ∙ ap (insertAt r (makeRow t f0 f1 f2 f3)) (pl .rows); cap = w .cap ∙ pl .cap }
+      record {
+        sound = w .sound;
+        rows = w .rows ∙ ap (insertAt r (makeRow t f0 f1 f2 f3)) (pl .rows);
+        cap = w .cap ∙ pl .cap;
+        format = w .format ∙ pl .format;
+      }

@@ -24,6 +24,7 @@ pub record Moved (b m : List ℕ) (r c : ℕ) : Type 0 where
   pub rows : rowsOf m ≡ rowsOf b
   pub count : countOf m ≡ countOf b
   pub cap : capOf m ≡ capOf b
+  pub format : formatOf m ≡ formatOf b
   pub used : usedOf m ≡ usedOf b
   pub end : endOf m ≡ endOf b
   pub place : offOf (slotOf m r) ≡ c
@@ -126,7 +127,6 @@ module _ (b b1 m : List ℕ) (r c o k : ℕ) (so : Sound b) (hr : r < countOf b)
   moved = record {
     sound = record {
       marked = kind .0 ∙ so .marked;
-      format = kind .1 ∙ so .format;
       shape = record {
         few = omega (arith, same-count, so .shape .few);
         room = omega (arith, same-cap, so .shape .room);
@@ -145,6 +145,7 @@ module _ (b b1 m : List ℕ) (r c o k : ℕ) (so : Sound b) (hr : r < countOf b)
     rows = rows-same;
     count = same-count;
     cap = same-cap;
+    format = kind .1;
     used = same-used;
     end = same-end;
     place = place-here;

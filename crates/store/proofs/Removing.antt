@@ -126,7 +126,6 @@ module _ (b b1 b2 : List ℕ) (n u e o k x r : ℕ)
   removed = record {
     sound = record {
       marked = rem-kind .0 ∙ so .marked;
-      format = rem-kind .1 ∙ so .format;
       shape = record {
         few = omega (arith, rem-count, so .shape .few);
         room = omega (arith, rem-cap, so .shape .room);
@@ -145,6 +144,7 @@ module _ (b b1 b2 : List ℕ) (n u e o k x r : ℕ)
     };
     rows = remove-rows;
     cap = rem-cap;
+    format = rem-kind .1;
   }
 
 -- the numbers as the code has read them

@@ -8,8 +8,9 @@ use native.Mathlib.Omega.{arith}
 use lib.ListN.{length}
 use Rattle.base.specs.Buffer.{part}
 use Rattle.store.specs.Buffer.{num4}
-use Rattle.store.specs.Layout.{heapStart, offOf, sizeOf}
-use Rattle.store.specs.Rows.{rowOf, rowSize}
+use Rattle.store.specs.Layout.{heapStart, countOf, slotOf, offOf, sizeOf}
+use Rattle.store.specs.Rows.{rowOf, rowAt, sizeAt, rowSize}
+use Rattle.store.specs.Packages.{Sound}
 use Rattle.base.proofs.Parts.{length-part}
 
 pub three : (i r : ℕ) → (i < r) ⊎ ((i ≡ r) ⊎ (r < i))
@@ -46,6 +47,9 @@ row-size b s h =
     let p2 = length-part (heapStart + num4 s 0 + num4 s 4 + num4 s 8) (num4 s 12) b (omega arith) in
     let p3 = length-part (heapStart + num4 s 0 + num4 s 4 + num4 s 8 + num4 s 12) (num4 s 16) b (omega arith) in
     omega arith
+
+pub row-sized : (b : List ℕ) → Sound b → (i : ℕ) → i < countOf b → rowSize (rowAt b i) ≡ sizeAt b i
+row-sized b so i l = row-size b (slotOf b i) (omega (arith, so .inside i l, so .shape .within))
 
 -- a row that has stayed, with its slot
 pub row-same : (b m s z : List ℕ) → z ≡ s

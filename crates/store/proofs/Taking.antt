@@ -10,7 +10,7 @@ use Rattle.base.specs.Buffer.{part, splice}
 use Rattle.store.specs.Buffer.{le4}
 use Rattle.store.specs.Layout.{heapStart, countOf, endOf, slotAt, slotOf, offOf, sizeOf}
 use Rattle.store.specs.Packages.{Sound, Gathered}
-use Rattle.store.specs.Places.{Lowest, Ordered, Settled, Carried, carried}
+use Rattle.store.specs.Places.{Lowest, ByOffset, Settled, Carried, carried}
 use Rattle.store.proofs.RowPlaces.{three}
 use Rattle.store.proofs.Scanning.{last}
 use Rattle.store.proofs.Moving.{Moved}
@@ -27,7 +27,7 @@ take-none : (b t : List ℕ) (n : ℕ) → Taken b b t n 0 0 0
 take-none b t n = record { settled = λ i h. absurd (omega arith); rest = λ i h q. (refl, omega arith) }
 
 -- row j of the order is the lowest of those that are not yet settled
-module _ (b l t : List ℕ) (n c h j : ℕ) (g : Gathering b l c) (en : n ≡ countOf b) (od : Ordered b t n n) (hc : c ≤ h) (tk : Taken b l t n j c h) where
+module _ (b l t : List ℕ) (n c h j : ℕ) (g : Gathering b l c) (en : n ≡ countOf b) (od : ByOffset b t n n) (hc : c ≤ h) (tk : Taken b l t n j c h) where
   off-rest : (i : ℕ) → j ≤ i → i < n → offOf (slotOf l (getD t i 0)) ≡ offOf (slotOf b (getD t i 0))
   off-rest i p q = ap (λ (s : List ℕ). offOf s) (tk .rest i p q .0)
 
@@ -83,7 +83,7 @@ run-none b t n e =
     }
 
 -- row r, the next of the order
-module _ (b m t : List ℕ) (n e c a q j : ℕ) (s : Run b m t n e c a q j) (od : Ordered b t n n) (en : n ≡ countOf b) (ee : e ≡ endOf b) (he : e < 2 ^ 32) (hj : j < n)
+module _ (b m t : List ℕ) (n e c a q j : ℕ) (s : Run b m t n e c a q j) (od : ByOffset b t n n) (en : n ≡ countOf b) (ee : e ≡ endOf b) (he : e < 2 ^ 32) (hj : j < n)
     (r o k : ℕ) (er : r ≡ getD t j 0) (eo : o ≡ offOf (slotOf m r)) (ek : k ≡ sizeOf (slotOf m r)) where
   hr : r < n
   hr = named-low b t n j r od hj er
@@ -165,7 +165,7 @@ module _ (b m t : List ℕ) (n e c a q j : ℕ) (s : Run b m t n e c a q j) (od 
         }
 
 -- no row is left: the run is moved, and the end is set
-pub run-all : (b m m1 m2 t : List ℕ) (n e c a q j : ℕ) → Run b m t n e c a q j → Ordered b t n n → n ≡ countOf b → e ≡ endOf b → e < 2 ^ 32 → n ≤ j
+pub run-all : (b m m1 m2 t : List ℕ) (n e c a q j : ℕ) → Run b m t n e c a q j → ByOffset b t n n → n ≡ countOf b → e ≡ endOf b → e < 2 ^ 32 → n ≤ j
     → m1 ≡ splice m (heapStart + (c - q)) (part (heapStart + a) q m) → m2 ≡ splice m1 20 (le4 c) → Sound b → Gathered b m2
 run-all b m m1 m2 t n e c a q j s od en ee he hj e1 e2 so =
     gather-all b (carried m a q c) m2 n c e n (s .gathering so) en ee he (omega (arith, s .low, s .inside))

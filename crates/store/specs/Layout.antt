@@ -31,6 +31,9 @@ mark = code "O" ∷ code "P" ∷ code "C" ∷ code "P" ∷ code "A" ∷ code "C"
 abbrev pub formatOf : List ℕ → ℕ
 formatOf b = getD b 7 0
 
+abbrev pub packageFormat : ℕ
+packageFormat = 1
+
 -- then come the capacity, the number of rows, the bytes of the heap that the rows use, and the end of the last of them:
 -- rows that were taken out leave gaps below it, and from it on the heap is free.
 abbrev pub capOf : List ℕ → ℕ

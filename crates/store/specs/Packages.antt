@@ -9,7 +9,7 @@ use lib.Dec.{leb, eqb}
 use lib.ListN.{length}
 use Rattle.base.specs.Buffer.{part}
 use Rattle.store.specs.Buffer.{num4}
-use Rattle.store.specs.Layout.{slotCount, heapStart, maxCapacity, mark, formatOf, capOf, countOf, usedOf, endOf, slotOf, offOf, sizeOf}
+use Rattle.store.specs.Layout.{slotCount, heapStart, maxCapacity, mark, formatOf, packageFormat, capOf, countOf, usedOf, endOf, slotOf, offOf, sizeOf}
 use Rattle.store.specs.Rows.{Row, rowsOf, insertAt, removeAt, total}
 
 -- the mark stands at the start: two numbers of four bytes cover its seven
@@ -20,8 +20,8 @@ isMarked b = eqb (num4 b 0) (num4 mark 0) && eqb (num4 b 3) (num4 mark 3)
 unfoldable pub isPackage : List ℕ → Bool
 isPackage b =
     leb heapStart (length b)
-    && (isMarked b && eqb (formatOf b) 1 && leb (countOf b) slotCount && leb (capOf b + heapStart) (length b) && leb (capOf b) maxCapacity
-    && leb (usedOf b) (capOf b) && leb (usedOf b) (endOf b) && leb (endOf b + heapStart) (length b))
+    && (isMarked b && eqb (formatOf b) packageFormat && leb (countOf b) slotCount && leb (capOf b + heapStart) (length b)
+    && leb (capOf b) maxCapacity && leb (usedOf b) (capOf b) && leb (usedOf b) (endOf b) && leb (endOf b + heapStart) (length b))
 
 -- what the header must show for every access to be safe
 pub record Shape (b : List ℕ) : Type 0 where
@@ -36,10 +36,10 @@ pub record Shape (b : List ℕ) : Type 0 where
 abbrev pub Apart : List ℕ → List ℕ → Type 0
 Apart s t = (offOf s + sizeOf s ≤ offOf t) ⊎ (offOf t + sizeOf t ≤ offOf s)
 
--- a package as the functions here leave it: every row has a byte at least, the rows' places lie before the end and do not meet
+-- a package as the functions here leave it, whatever its format: every row has a byte at least, the rows' places lie before the end and
+-- do not meet
 pub record Sound (b : List ℕ) : Type 0 where
   pub marked : part 0 7 b ≡ mark
-  pub format : formatOf b ≡ 1
   pub shape : Shape b
   pub filled : (i : ℕ) → i < countOf b → 0 < sizeOf (slotOf b i)
   pub inside : (i : ℕ) → i < countOf b → offOf (slotOf b i) + sizeOf (slotOf b i) ≤ endOf b
@@ -51,12 +51,14 @@ pub record Inserted (b m : List ℕ) (r : ℕ) (x : Row) : Type 0 where
   pub sound : Sound m
   pub rows : rowsOf m ≡ insertAt r x (rowsOf b)
   pub cap : capOf m ≡ capOf b
+  pub format : formatOf m ≡ formatOf b
 
 -- m is b without its row r
 pub record Removed (b m : List ℕ) (r : ℕ) : Type 0 where
   pub sound : Sound m
   pub rows : rowsOf m ≡ removeAt r (rowsOf b)
   pub cap : capOf m ≡ capOf b
+  pub format : formatOf m ≡ formatOf b
 
 -- there is room for a row of k bytes at r
 pub record Room (b : List ℕ) (r k : ℕ) : Type 0 where
@@ -69,4 +71,5 @@ pub record Gathered (b m : List ℕ) : Type 0 where
   pub sound : Sound m
   pub rows : rowsOf m ≡ rowsOf b
   pub cap : capOf m ≡ capOf b
+  pub format : formatOf m ≡ formatOf b
   pub end : endOf m ≡ usedOf m

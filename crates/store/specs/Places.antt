@@ -1,15 +1,27 @@
--- What the inner functions do that find and move places in the heap.
+-- What the functions do that find and move places in the buffer.
 -- Assumes nothing.
 use mathlib.Core.Path.{_≡_}
 use mathlib.Core.Logic.{_⊎_}
 use mathlib.Core.List.{List}
-use Prim.Native.Nat.{ℕ, _+_, _-_, _≤_, _<_}
-use lib.ListN.{getD}
+use Prim.Native.Nat.{ℕ, _+_, _-_, _^_, _≤_, _<_}
+use lib.ListN.{length, getD}
 use Rattle.base.specs.Buffer.{part, splice}
 use Rattle.store.specs.Buffer.{le4}
-use Rattle.store.specs.Layout.{heapStart, heapSize, capOf, usedOf, endOf, slotAt, slotOf, offOf, sizeOf}
-use Rattle.store.specs.Rows.{rowsOf}
+use Rattle.store.specs.Layout.{heapStart, heapSize, formatOf, capOf, countOf, usedOf, endOf, slotAt, slotOf, offOf, sizeOf}
+use Rattle.store.specs.Rows.{rowAt, rowsOf, fieldOf}
 use Rattle.store.specs.Packages.{Sound}
+
+-- the m bytes from a on are the n bytes from `at` on, or none where the buffer has not so many
+pub record Spanned (b : List ℕ) (at n a m : ℕ) : Type 0 where
+  pub few : m ≤ n
+  pub inside : a + m ≤ length b
+  pub is : at + n ≤ length b → part a m b ≡ part at n b
+
+-- the n bytes from a on lie within the buffer, and are field j of row i
+pub record FieldAt (b : List ℕ) (i j a n : ℕ) : Type 0 where
+  pub few : n < 2 ^ 32
+  pub inside : a + n ≤ length b
+  pub is : Sound b → i < countOf b → part a n b ≡ fieldOf (rowAt b i) j
 
 -- x is the end of the n rows without the one whose k bytes lie at o: e as before, or o where these were the last, or 0 where it was the only row
 pub record EndWithout (n e o k x : ℕ) : Type 0 where
@@ -23,7 +35,7 @@ pub record Lowest (b : List ℕ) (n c r : ℕ) : Type 0 where
   pub least : (i : ℕ) → i < n → c ≤ offOf (slotOf b i) → (r < n) × (offOf (slotOf b r) ≤ offOf (slotOf b i))
 
 -- the first k entries of t are slots among the first n, each of a greater offset than those before
-pub record Ordered (b t : List ℕ) (n k : ℕ) : Type 0 where
+pub record ByOffset (b t : List ℕ) (n k : ℕ) : Type 0 where
   pub named : (j : ℕ) → j < k → getD t j 0 < n
   pub rising : (i j : ℕ) → i < j → j < k → offOf (slotOf b (getD t i 0)) < offOf (slotOf b (getD t j 0))
 
@@ -46,5 +58,6 @@ pub record Placed (b m : List ℕ) (k at : ℕ) : Type 0 where
   pub sound : Sound m
   pub rows : rowsOf m ≡ rowsOf b
   pub cap : capOf m ≡ capOf b
+  pub format : formatOf m ≡ formatOf b
   pub end : at ≡ endOf m
   pub fits : usedOf b + k ≤ capOf b → at + k ≤ heapSize m

@@ -5,7 +5,7 @@ use mathlib.Core.List.{List, [], _∷_, _++_}
 use lib.ListN.{length, take, drop}
 use Rattle.base.specs.Buffer.{part}
 use Rattle.store.specs.Buffer.{num4}
-use Rattle.store.specs.Layout.{heapStart, countOf, slotOf, offOf}
+use Rattle.store.specs.Layout.{heapStart, countOf, slotOf, offOf, sizeOf}
 
 -- a row: a number and four byte strings
 pub record Row : Type 0 where
@@ -43,6 +43,10 @@ rowAt b i = rowOf b (slotOf b i)
 
 abbrev pub tagAt : List ℕ → ℕ → ℕ
 tagAt b i = rowAt b i .tag
+
+-- how many bytes row i has, as its slot tells
+abbrev pub sizeAt : List ℕ → ℕ → ℕ
+sizeAt b i = sizeOf (slotOf b i)
 
 -- the list f 0, f 1, .., f (n - 1)
 unfoldable pub tabulate : ℕ → (ℕ → Row) → List Row

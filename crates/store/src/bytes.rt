@@ -1,12 +1,12 @@
 // Numbers in a buffer, and parts of it.
 ghost use mathlib.Core.Path.{_≡_};
 ghost use Prim.Native.Nat.{_+_, _^_, _≤_, _<_};
-ghost use lib.ListN.{length};
-ghost use Rattle.base.specs.Buffer.{part, splice};
+ghost use lib.ListN.{length, getD};
+ghost use Rattle.base.specs.Buffer.{splice};
 ghost use Rattle.store.specs.Buffer.{num4, le4};
 
 // A byte as a number.
-pub fn wide(x: u8) -> usize
+pub(crate) fn wide(x: u8) -> usize
     ensures { λ r. ⌜ (r ≡ x) × (r < 256) ⌝ }
 {
     x as usize
@@ -33,18 +33,4 @@ pub fn put4(pkg: &mut [u8], at: usize, v: usize)
     pkg[at + 1] = (v / 256 % 256) as u8;
     pkg[at + 2] = (v / 256 / 256 % 256) as u8;
     pkg[at + 3] = (v / 256 / 256 / 256 % 256) as u8;
-}
-
-// The n bytes from `at` on, or none where the slice has not so many.
-pub fn cut(pkg: &[u8], at: usize, n: usize) -> &[u8]
-    ensures { λ r. ⌜ (length (now r) ≤ n) × (length (now r) ≤ length (now (pkg .entry))) × (at + n ≤ length (now (pkg .entry)) → now r ≡ part at n (now (pkg .entry))) ⌝ }
-{
-    if pkg.len() < at {
-        return &pkg[0..0];
-    }
-    if pkg.len() - at < n {
-        return &pkg[0..0];
-    }
-    let e = at + n;
-    &pkg[at..e]
 }

@@ -16,7 +16,7 @@ ghost use Prim.Native.Nat.{_+_, _^_, _≤_, _<_};
 ghost use lib.ListN.{length};
 ghost use Rattle.base.specs.Buffer.{splice};
 ghost use Rattle.store.specs.Buffer.{num4, le4};
-ghost use Rattle.store.specs.Layout.{headerSize, heapStart, maxCapacity, formatOf, capOf, countOf, usedOf};
+ghost use Rattle.store.specs.Layout.{headerSize, heapStart, maxCapacity, formatOf, packageFormat, capOf, countOf, usedOf};
 ghost use Rattle.store.specs.Rows.{rowsOf};
 ghost use Rattle.store.specs.Packages.{Shape, Sound, isPackage};
 
@@ -24,6 +24,13 @@ ghost use Rattle.store.specs.Packages.{Shape, Sound, isPackage};
 const MARK_START: usize = 0x5043504F;
 
 const MARK_END: usize = 0x4B434150;
+
+// Where the header has the four bytes at the mark's start, those at its end, and the format.
+const MARK_START_AT: usize = 0;
+
+const MARK_END_AT: usize = 3;
+
+const FORMAT_AT: usize = 7;
 
 const FORMAT: u8 = 1;
 
@@ -44,17 +51,10 @@ fn number(pkg: &[u8], at: usize) -> usize
 }
 
 // The kind of package.
-pub fn format(pkg: &[u8]) -> u8
+pub(crate) fn format(pkg: &[u8]) -> u8
     ensures { λ r. ⌜ r ≡ formatOf (now (pkg .entry)) ⌝ }
 {
-    byte_at(pkg, 7)
-}
-
-// How many bytes the rows may use.
-pub fn capacity(pkg: &[u8]) -> usize
-    ensures { λ r. ⌜ (r ≡ capOf (now (pkg .entry))) × (r < 2 ^ 32) ⌝ }
-{
-    number(pkg, CAPACITY_AT)
+    byte_at(pkg, FORMAT_AT)
 }
 
 // How many rows there are.
@@ -80,7 +80,7 @@ pub fn free(pkg: &[u8]) -> usize
 }
 
 // Writes the number of rows, the bytes that they use, and the end of the last.
-pub fn put_counts(pkg: &mut [u8], n: usize, u: usize, e: usize)
+pub(crate) fn put_counts(pkg: &mut [u8], n: usize, u: usize, e: usize)
     requires { ⌜ (24 ≤ length (now pkg)) × (n < 2 ^ 32) × (u < 2 ^ 32) × (e < 2 ^ 32) ⌝ }
     ensures { λ _. ⌜ now (pkg .exit) ≡ splice (now (pkg .entry)) 12 (le4 n ++ (le4 u ++ le4 e)) ⌝ }
 {
@@ -92,7 +92,7 @@ pub fn put_counts(pkg: &mut [u8], n: usize, u: usize, e: usize)
 // Makes an empty package of a buffer. Byte 7 of what is copied in is the format.
 pub fn init(pkg: &mut [u8], cap: usize)
     requires { ⌜ (cap + heapStart ≤ length (now pkg)) × (cap ≤ maxCapacity) ⌝ }
-    ensures { λ _. ⌜ Sound (now (pkg .exit)) × (rowsOf (now (pkg .exit)) ≡ []) × (capOf (now (pkg .exit)) ≡ cap) ⌝ }
+    ensures { λ _. ⌜ Sound (now (pkg .exit)) × (rowsOf (now (pkg .exit)) ≡ []) × (capOf (now (pkg .exit)) ≡ cap) × (formatOf (now (pkg .exit)) ≡ packageFormat) ⌝ }
 {
     copy_in(pkg, 0, b"OPCPACK\x01");
     put4(pkg, CAPACITY_AT, cap);
@@ -110,8 +110,8 @@ pub fn is_package(pkg: &[u8]) -> bool
     let cap = get4(pkg, CAPACITY_AT);
     let used = get4(pkg, USED_AT);
     let end = get4(pkg, END_AT);
-    (get4(pkg, 0) == MARK_START)
-        & (get4(pkg, 3) == MARK_END)
+    (get4(pkg, MARK_START_AT) == MARK_START)
+        & (get4(pkg, MARK_END_AT) == MARK_END)
         & (format(pkg) == FORMAT)
         & (get4(pkg, COUNT_AT) <= SLOT_COUNT)
         & (cap + HEAP_START <= len)

@@ -26,7 +26,7 @@ ghost use Rattle.store.specs.Places.{EndWithout, Settled, Placed};
 const MAX_OFFSET: usize = 0xFFFFFFFF;
 
 // Copies four fields in, one after the other.
-pub fn put_fields(pkg: &mut [u8], at: usize, f0: &[u8], f1: &[u8], f2: &[u8], f3: &[u8])
+pub(crate) fn put_fields(pkg: &mut [u8], at: usize, f0: &[u8], f1: &[u8], f2: &[u8], f3: &[u8])
     requires { ⌜ at + (length (now f0) + (length (now f1) + (length (now f2) + length (now f3)))) ≤ length (now pkg) ⌝ }
     ensures { λ _. ⌜ now (pkg .exit) ≡ splice (now (pkg .entry)) at (now (f0 .entry) ++ (now (f1 .entry) ++ (now (f2 .entry) ++ now (f3 .entry)))) ⌝ }
 {
@@ -40,7 +40,7 @@ pub fn put_fields(pkg: &mut [u8], at: usize, f0: &[u8], f1: &[u8], f2: &[u8], f3
 }
 
 // How many bytes the heap has, as far as offsets of four bytes reach.
-pub fn heap_size(pkg: &[u8]) -> usize
+pub(crate) fn heap_size(pkg: &[u8]) -> usize
     requires { ⌜ heapStart ≤ length (now pkg) ⌝ }
     ensures { λ r. ⌜ r ≡ heapSize (now (pkg .entry)) ⌝ }
 {
@@ -49,7 +49,7 @@ pub fn heap_size(pkg: &[u8]) -> usize
 }
 
 // The end of the heap's n rows without one whose k bytes lie at o, where it was e with it.
-pub fn end_without(n: usize, e: usize, o: usize, k: usize) -> usize
+pub(crate) fn end_without(n: usize, e: usize, o: usize, k: usize) -> usize
     requires { ⌜ (o < 2 ^ 32) × (k < 2 ^ 34) ⌝ }
     ensures { λ r. ⌜ EndWithout n e o k r ⌝ }
 {
@@ -96,7 +96,7 @@ fn gather_each(pkg: &mut [u8], n: usize, e: usize)
 }
 
 // Gathers the rows' bytes at the heap's start, in the order in which they lie. Rows for which no order is confirmed are looked for one by one: so it is with a few.
-pub fn compact(pkg: &mut [u8])
+fn compact(pkg: &mut [u8])
     requires { ⌜ Shape (now pkg) ⌝ }
     ensures { λ _. ⌜ (Sound (now (pkg .entry)) → Gathered (now (pkg .entry)) (now (pkg .exit))) ⌝ }
 {
@@ -111,7 +111,7 @@ pub fn compact(pkg: &mut [u8])
 }
 
 // Where the heap has room for k bytes more: at its end, once the rows are gathered if they must be.
-pub fn free_place(pkg: &mut [u8], k: usize) -> usize
+pub(crate) fn free_place(pkg: &mut [u8], k: usize) -> usize
     requires { ⌜ Shape (now pkg) ⌝ }
     requires { ⌜ k < 2 ^ 32 ⌝ }
     ensures { λ r. ⌜ (r < 2 ^ 32) × (Sound (now (pkg .entry)) → Placed (now (pkg .entry)) (now (pkg .exit)) k r) ⌝ }

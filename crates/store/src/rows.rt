@@ -3,10 +3,15 @@ use crate::COUNT_AT;
 use crate::END_AT;
 use crate::HEADER_SIZE;
 use crate::HEAP_START;
+use crate::LENGTH0_AT;
+use crate::LENGTH1_AT;
+use crate::LENGTH2_AT;
+use crate::LENGTH3_AT;
+use crate::OFFSET_AT;
 use crate::SLOT_COUNT;
 use crate::SLOT_SIZE;
+use crate::TAG_AT;
 use crate::USED_AT;
-use crate::bytes::cut;
 use crate::bytes::get4;
 use crate::header::put_counts;
 use crate::heap::end_without;
@@ -23,8 +28,9 @@ ghost use mathlib.Core.Path.{_≡_};
 ghost use Prim.Native.Nat.{_+_, _^_, _≤_, _<_};
 ghost use lib.ListN.{length};
 ghost use Rattle.store.specs.Layout.{countOf};
-ghost use Rattle.store.specs.Rows.{rowAt, tagAt, fieldOf, makeRow};
+ghost use Rattle.store.specs.Rows.{rowAt, tagAt, sizeAt, fieldOf, makeRow};
 ghost use Rattle.store.specs.Packages.{Shape, Sound, Room, Inserted, Removed};
+ghost use Rattle.store.specs.Places.{Spanned, FieldAt};
 
 // The tag of row i: 0 where the buffer has no such row.
 pub fn tag(pkg: &[u8], i: usize) -> usize
@@ -36,34 +42,76 @@ pub fn tag(pkg: &[u8], i: usize) -> usize
     if SLOT_COUNT <= i {
         return 0;
     }
-    number(pkg, i, 20)
+    number(pkg, i, TAG_AT)
+}
+
+// How many bytes row i has, as its slot tells: 0 where the buffer has no such row.
+pub fn row_size(pkg: &[u8], i: usize) -> usize
+    ensures { λ r. ⌜ (r < 2 ^ 34) × (Shape (now (pkg .entry)) → i < countOf (now (pkg .entry)) → r ≡ sizeAt (now (pkg .entry)) i) ⌝ }
+{
+    if pkg.len() < HEAP_START {
+        return 0;
+    }
+    if SLOT_COUNT <= i {
+        return 0;
+    }
+    size(pkg, i)
+}
+
+// The bytes from `at` on, `length` of them.
+pub struct Span {
+    pub at: usize,
+    pub length: usize,
+}
+
+// The n bytes from `at` on, or none where the buffer has not so many.
+fn span_at(pkg: &[u8], at: usize, n: usize) -> Span
+    ensures { λ r. ⌜ Spanned (now (pkg .entry)) at n (r .at) (r .length) ⌝ }
+{
+    if pkg.len() < at {
+        return Span { at: 0, length: 0 };
+    }
+    if pkg.len() - at < n {
+        return Span { at: 0, length: 0 };
+    }
+    Span { at, length: n }
+}
+
+// Where field j of row i lies: no bytes where the buffer has no such row.
+pub fn field_place(pkg: &[u8], i: usize, j: usize) -> Span
+    ensures { λ r. ⌜ FieldAt (now (pkg .entry)) i j (r .at) (r .length) ⌝ }
+{
+    if pkg.len() < HEAP_START {
+        return Span { at: 0, length: 0 };
+    }
+    if SLOT_COUNT <= i {
+        return Span { at: 0, length: 0 };
+    }
+    let a = HEAP_START + number(pkg, i, OFFSET_AT);
+    let n0 = number(pkg, i, LENGTH0_AT);
+    if j == 0 {
+        return span_at(pkg, a, n0);
+    }
+    let n1 = number(pkg, i, LENGTH1_AT);
+    if j == 1 {
+        return span_at(pkg, a + n0, n1);
+    }
+    let n2 = number(pkg, i, LENGTH2_AT);
+    if j == 2 {
+        return span_at(pkg, a + n0 + n1, n2);
+    }
+    let n3 = number(pkg, i, LENGTH3_AT);
+    span_at(pkg, a + n0 + n1 + n2, n3)
 }
 
 // Field j of row i: none where the buffer has no such row.
 pub fn field(pkg: &[u8], i: usize, j: usize) -> &[u8]
     ensures { λ r. ⌜ (length (now r) < 2 ^ 32) × (length (now r) ≤ length (now (pkg .entry))) × (Sound (now (pkg .entry)) → i < countOf (now (pkg .entry)) → now r ≡ fieldOf (rowAt (now (pkg .entry)) i) j) ⌝ }
 {
-    if pkg.len() < HEAP_START {
-        return &pkg[0..0];
-    }
-    if SLOT_COUNT <= i {
-        return &pkg[0..0];
-    }
-    let a = HEAP_START + number(pkg, i, 0);
-    let n0 = number(pkg, i, 4);
-    if j == 0 {
-        return cut(pkg, a, n0);
-    }
-    let n1 = number(pkg, i, 8);
-    if j == 1 {
-        return cut(pkg, a + n0, n1);
-    }
-    let n2 = number(pkg, i, 12);
-    if j == 2 {
-        return cut(pkg, a + n0 + n1, n2);
-    }
-    let n3 = number(pkg, i, 16);
-    cut(pkg, a + n0 + n1 + n2, n3)
+    let s = field_place(pkg, i, j);
+    let a = s.at;
+    let e = a + s.length;
+    &pkg[a..e]
 }
 
 // Puts a row in at r. In a sound package the heap has room at its free place.

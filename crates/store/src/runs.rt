@@ -13,7 +13,7 @@ ghost use Prim.Native.Nat.{_+_, _^_, _≤_, _<_};
 ghost use lib.ListN.{length};
 ghost use Rattle.store.specs.Layout.{heapStart, countOf, endOf};
 ghost use Rattle.store.specs.Packages.{Shape, Sound, Gathered};
-ghost use Rattle.store.specs.Places.{Ordered, Carried};
+ghost use Rattle.store.specs.Places.{ByOffset, Carried};
 
 // Moves the run of q bytes at a down to end at c, unless the bytes at o go on with it. Answers how many of its bytes still are to be moved.
 fn carry(pkg: &mut [u8], a: usize, q: usize, c: usize, o: usize) -> usize
@@ -29,9 +29,9 @@ fn carry(pkg: &mut [u8], a: usize, q: usize, c: usize, o: usize) -> usize
 
 // Gathers the n rows at the heap's start, in the order t. Each slot tells at once where its row will lie; c is how far they reach,
 // and the run of q bytes at a is still to be moved. In a sound package every row lies behind the run and before the end e.
-pub fn gather_runs(pkg: &mut [u8], t: &[u16], n: usize, e: usize)
+pub(crate) fn gather_runs(pkg: &mut [u8], t: &[u16], n: usize, e: usize)
     requires { ⌜ Shape (now pkg) × (n ≡ countOf (now pkg)) × (e ≡ endOf (now pkg)) × (e < 2 ^ 32) ⌝ }
-    requires { ⌜ (n ≤ length (now t)) × Ordered (now pkg) (now t) n n ⌝ }
+    requires { ⌜ (n ≤ length (now t)) × ByOffset (now pkg) (now t) n n ⌝ }
     ensures { λ _. ⌜ (Sound (now (pkg .entry)) → Gathered (now (pkg .entry)) (now (pkg .exit))) ⌝ }
 {
     let mut c = 0;

@@ -16,15 +16,15 @@ use Rattle.model.specs.Package.{Default, Override, Relationship}
 use Rattle.model.specs.Texts.{quoted, defaultLine, overrideLine, modeText, relationshipLine}
 use Rattle.model.proofs.Lengths.{quoted-length}
 use Rattle.store.specs.Rows.{Row}
-use Rattle.contract.specs.Rows.{relationshipTag, defaultRow, overrideRow, relationshipRow}
+use Rattle.contract.specs.Rows.{defaultTag, overrideTag, relationshipTag, externalTag, defaultRow, overrideRow, relationshipRow}
 use Rattle.streams.specs.EntryLines.{typeText, modeEnd, relationshipText, lineOf}
 
 -- HOW A RELATIONSHIP'S LINE ENDS
-pub mode-external : (t : ℕ) → t ≡ 32771 → modeEnd t ≡ ascii "\" TargetMode=\"External\"/>\n"
+pub mode-external : (t : ℕ) → t ≡ externalTag → modeEnd t ≡ ascii "\" TargetMode=\"External\"/>\n"
 unfolding modeEnd
 mode-external t e = ap modeEnd e
 
-pub mode-internal : (t : ℕ) → (t ≡ 32771 → ⊥) → modeEnd t ≡ ascii "\"/>\n"
+pub mode-internal : (t : ℕ) → (t ≡ externalTag → ⊥) → modeEnd t ≡ ascii "\"/>\n"
 unfolding modeEnd
 mode-internal t h = rw (ne-eqb (t - relationshipTag) 1 (λ e. h (omega arith)))
 
@@ -73,25 +73,25 @@ relationship-length t id type target = simp length-append (omega (arith, quoted-
 
 -- THE LINE OF A ROW, by its tag
 module _ (x : Row) where
-  pub default-line : x .tag ≡ 32768 → typeText (ascii "<Default Extension=\"") (x .f0) (x .f1) ≡ lineOf x
+  pub default-line : x .tag ≡ defaultTag → typeText (ascii "<Default Extension=\"") (x .f0) (x .f1) ≡ lineOf x
   unfolding typeText lineOf
-  default-line e = rw (eq-eqb (x .tag) 32768 e) (go (quoted (x .f0)) (quoted (x .f1)))
+  default-line e = rw (eq-eqb (x .tag) defaultTag e) (go (quoted (x .f0)) (quoted (x .f1)))
     where
       go : (k v : Bytes) → ascii "<Default Extension=\"" ++ (k ++ (ascii "\" ContentType=\"" ++ (v ++ ascii "\"/>\n")))
           ≡ (ascii "<Default" ++ ((ascii " " ++ (ascii "Extension" ++ (ascii "=\"" ++ (k ++ ascii "\"")))) ++ ((ascii " " ++ (ascii "ContentType" ++ (ascii "=\"" ++ (v ++ ascii "\"")))) ++ ascii "/>"))) ++ ascii "\n"
       go k v = simp append-assoc
 
-  pub override-line : (x .tag ≡ 32768 → ⊥) → x .tag ≡ 32769 → typeText (ascii "<Override PartName=\"") (x .f0) (x .f1) ≡ lineOf x
+  pub override-line : (x .tag ≡ defaultTag → ⊥) → x .tag ≡ overrideTag → typeText (ascii "<Override PartName=\"") (x .f0) (x .f1) ≡ lineOf x
   unfolding typeText lineOf
-  override-line h e = rw (ne-eqb (x .tag) 32768 h, eq-eqb (x .tag) 32769 e) (go (quoted (x .f0)) (quoted (x .f1)))
+  override-line h e = rw (ne-eqb (x .tag) defaultTag h, eq-eqb (x .tag) overrideTag e) (go (quoted (x .f0)) (quoted (x .f1)))
     where
       go : (k v : Bytes) → ascii "<Override PartName=\"" ++ (k ++ (ascii "\" ContentType=\"" ++ (v ++ ascii "\"/>\n")))
           ≡ (ascii "<Override" ++ ((ascii " " ++ (ascii "PartName" ++ (ascii "=\"" ++ (k ++ ascii "\"")))) ++ ((ascii " " ++ (ascii "ContentType" ++ (ascii "=\"" ++ (v ++ ascii "\"")))) ++ ascii "/>"))) ++ ascii "\n"
       go k v = simp append-assoc
 
-  pub relationship-line : (x .tag ≡ 32768 → ⊥) → (x .tag ≡ 32769 → ⊥) → relationshipText (x .tag) (x .f1) (x .f2) (x .f3) ≡ lineOf x
+  pub relationship-line : (x .tag ≡ defaultTag → ⊥) → (x .tag ≡ overrideTag → ⊥) → relationshipText (x .tag) (x .f1) (x .f2) (x .f3) ≡ lineOf x
   unfolding relationshipText modeEnd lineOf
-  relationship-line h k = rw (ne-eqb (x .tag) 32768 h, ne-eqb (x .tag) 32769 k) (go (quoted (x .f1)) (quoted (x .f2)) (quoted (x .f3)) (modeText (x .tag - relationshipTag)))
+  relationship-line h k = rw (ne-eqb (x .tag) defaultTag h, ne-eqb (x .tag) overrideTag k) (go (quoted (x .f1)) (quoted (x .f2)) (quoted (x .f3)) (modeText (x .tag - relationshipTag)))
     where
       go : (i v t m : Bytes) → ascii "<Relationship Id=\"" ++ (i ++ (ascii "\" Type=\"" ++ (v ++ (ascii "\" Target=\"" ++ (t ++ (ascii "\"" ++ (m ++ ascii "/>\n")))))))
           ≡ (ascii "<Relationship" ++ ((ascii " " ++ (ascii "Id" ++ (ascii "=\"" ++ (i ++ ascii "\"")))) ++ ((ascii " " ++ (ascii "Type" ++ (ascii "=\"" ++ (v ++ ascii "\""))))
@@ -112,4 +112,4 @@ unfolding lineOf relationshipRow
 relationship-row-line r =
     let t = relationshipTag + r .mode in
     let e : t - relationshipTag ≡ r .mode = omega arith in
-    rw (ne-eqb t 32768 (λ z. omega arith), ne-eqb t 32769 (λ z. omega arith), e)
+    rw (ne-eqb t defaultTag (λ z. omega arith), ne-eqb t overrideTag (λ z. omega arith), e)

@@ -3,7 +3,7 @@
 use Prim.Native.Nat.{ℕ, suc, _+_, _-_, _*_, _≤_, _<_}
 use mathlib.Core.Path.{_≡_, refl, ap, sym, _∙_}
 use mathlib.Core.Bool.{Bool, true, false, cond}
-use mathlib.Core.List.{[], _∷_, _++_, append-assoc}
+use mathlib.Core.List.{[], _∷_, _++_, append-assoc, flatMap}
 use native.Mathlib.Numerals.{add-one}
 use native.Mathlib.Omega.{arith}
 use lib.Dec.{eqb}
@@ -15,18 +15,18 @@ use Rattle.chars.specs.Lists.{firstOf, indexOf}
 use Rattle.chars.proofs.Searches.{index-le}
 use Rattle.output.specs.Sends.{Sent}
 use Rattle.output.proofs.Sending.{sent-more, sent-as}
-use Rattle.model.specs.Sets.{Bytes, joined}
+use Rattle.model.specs.Sets.{Bytes}
 use Rattle.model.specs.Texts.{ampersand, quotedByte, quoted}
-use Rattle.model.proofs.Joins.{joined-append}
+use Rattle.model.proofs.Joins.{flatMap-append}
 use Rattle.model.proofs.Lengths.{quoted-length}
 
 quoted-append : (a b : Bytes) → quoted (a ++ b) ≡ quoted a ++ quoted b
 unfolding quoted
-quoted-append a b = joined-append quotedByte a b
+quoted-append a b = flatMap-append quotedByte a b
 
 -- up to the first & a value stands as it is
 quoted-plain : (s : Bytes) → quoted (take (indexOf ampersand s) s) ≡ take (indexOf ampersand s) s
-unfolding quoted joined firstOf
+unfolding quoted flatMap firstOf
 quoted-plain [] = refl
 quoted-plain (x ∷ s) = go (eqb x ampersand) refl (quoted-plain s)
   where
@@ -80,7 +80,7 @@ module _ (s : Bytes) (i k : ℕ) (ek : k ≡ i + indexOf ampersand (drop i s)) (
 
     -- the stretch up to it, and the & itself
     stretch : quoted (take (k + 1) s) ≡ quoted (take i s) ++ (take (k - i) (drop i s) ++ ascii "&amp;")
-    unfolding quoted joined
+    unfolding quoted flatMap
     stretch =
         ap (λ (n : ℕ). quoted (take n s)) (add-one k)
         ∙ ap quoted (take-suc s k 0 h)

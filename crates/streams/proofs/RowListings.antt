@@ -2,7 +2,7 @@
 -- Assumes nothing.
 use Prim.Native.Nat.{ℕ, _+_, _-_, _^_, _≤_, _<_}
 use mathlib.Core.Path.{_≡_, refl, ap, ap₂, sym, _∙_}
-use mathlib.Core.List.{List, [], _++_, append-assoc, append-nil}
+use mathlib.Core.List.{List, [], _++_, append-assoc, flatMap, append-nil}
 use native.Mathlib.Omega.{arith}
 use native.Mathlib.Numerals.{add-one}
 use lib.ListN.{length, take, length-append, length-take, drop-of-length-le}
@@ -10,7 +10,7 @@ use lib.Seq.{slice-cons}
 use Rattle.chars.specs.Bytes.{ascii}
 use Rattle.output.specs.Sends.{Sent}
 use Rattle.output.proofs.Sending.{sent-none, sent-more}
-use Rattle.model.specs.Sets.{Bytes, joined}
+use Rattle.model.specs.Sets.{Bytes}
 use Rattle.store.specs.Layout.{slotCount, countOf}
 use Rattle.store.specs.Rows.{Row, noRow, rowAt, tagAt, rowsOf, fieldOf}
 use Rattle.store.specs.Packages.{Shape, Sound}
@@ -68,7 +68,7 @@ module _ (b : List ℕ) (f t : ℕ) (out : Bytes) (at : ℕ) where
     listing-near l m = omega (arith, w .sent .next-is, w .few, w .high)
 
     pub listing-more : length out' ≡ length out → i < t → (next' : ℕ) (out'' : Bytes) → Lined b i out' next next' out'' → Listing b f t out at (i + 1) next' out''
-    unfolding joined
+    unfolding flatMap
     listing-more same l next' out'' x = record {
       text = w .text ++ x .text;
       sent = sent-more out out' out'' (w .text) (x .text) at next next' (w .sent) same (x .sent);
@@ -81,15 +81,15 @@ module _ (b : List ℕ) (f t : ℕ) (out : Bytes) (at : ℕ) where
         line : Sound b → t ≤ countOf b → linesOf i t (rowsOf b) ≡ x .text ++ linesOf (i + 1) t (rowsOf b)
         line so m =
             let k : i < countOf b = omega arith in
-            ap (joined lineOf) (slice-cons i t (rowsOf b) noRow l (omega (arith, rows-count b)))
+            ap (flatMap lineOf) (slice-cons i t (rowsOf b) noRow l (omega (arith, rows-count b)))
             ∙ ap₂ (λ (r : Row) (n : ℕ). lineOf r ++ linesOf n t (rowsOf b)) (row-getD b i k) (sym (add-one i))
             ∙ ap (λ (s : Bytes). s ++ linesOf (i + 1) t (rowsOf b)) (sym (x .is so k))
 
     pub listed-end : t ≤ i → t ≤ slotCount → Listed b f t out at next out'
-    unfolding joined
+    unfolding flatMap
     listed-end l m = record {
       text = w .text;
       sent = w .sent;
       few = omega (arith, w .few, w .high);
-      is = λ so k. sym (w .is so k ∙ ap (λ (r : List Row). w .text ++ joined lineOf r) (drop-of-length-le (take t (rowsOf b)) {i = i} (omega (arith, length-take t (rowsOf b)))) ∙ append-nil (w .text));
+      is = λ so k. sym (w .is so k ∙ ap (λ (r : List Row). w .text ++ flatMap lineOf r) (drop-of-length-le (take t (rowsOf b)) {i = i} (omega (arith, length-take t (rowsOf b)))) ∙ append-nil (w .text));
     }

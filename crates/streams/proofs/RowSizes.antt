@@ -9,11 +9,11 @@ use native.Mathlib.Omega.{arith}
 use native.Mathlib.Numerals.{add-one}
 use lib.Dec.{leb}
 use borrow.Author.Tests.{leb-true, leb-false}
-use Rattle.store.specs.Layout.{heapStart, countOf, usedOf, slotOf, sizeOf}
-use Rattle.store.specs.Rows.{rowAt, rowSize}
+use Rattle.store.specs.Layout.{countOf, usedOf}
+use Rattle.store.specs.Rows.{rowAt, rowSize, sizeAt}
 use Rattle.store.specs.Packages.{Sound}
 use Rattle.store.proofs.Sums.{sum, sum-same, total-sum}
-use Rattle.store.proofs.RowPlaces.{row-size}
+use Rattle.store.proofs.RowPlaces.{row-sized}
 use Rattle.streams.specs.Streams.{sizesOf, runSize, Summing}
 
 -- A SOUND BUFFER
@@ -22,10 +22,10 @@ unfolding sum
 sum-last zero f = omega arith
 sum-last (suc n) f = let e = sum-last n (λ k. f (suc k)) in omega arith
 
-sizes-sum : (b : List ℕ) (n : ℕ) → sizesOf b n ≡ sum n (λ i. sizeOf (slotOf b i))
+sizes-sum : (b : List ℕ) (n : ℕ) → sizesOf b n ≡ sum n (λ i. sizeAt b i)
 unfolding sizesOf sum
 sizes-sum b zero = refl
-sizes-sum b (suc n) = omega (arith, sizes-sum b n, sum-last n (λ i. sizeOf (slotOf b i)))
+sizes-sum b (suc n) = omega (arith, sizes-sum b n, sum-last n (λ i. sizeAt b i))
 
 -- k rows more have no fewer bytes
 sizes-more : (b : List ℕ) (n k : ℕ) → sizesOf b n ≤ sizesOf b (k + n)
@@ -40,7 +40,7 @@ sizes-le b m n l = let e : n - m + m ≡ n = omega arith in rw (← e) (sizes-mo
 sizes-used : (b : List ℕ) → Sound b → sizesOf b (countOf b) ≡ usedOf b
 sizes-used b so =
     sizes-sum b (countOf b)
-    ∙ sum-same (countOf b) (λ i. rowSize (rowAt b i)) (λ i. sizeOf (slotOf b i)) (λ i l. sym (row-size b (slotOf b i) (omega (arith, so .inside i l, so .shape .within))))
+    ∙ sum-same (countOf b) (λ i. rowSize (rowAt b i)) (λ i. sizeAt b i) (λ i l. sym (row-sized b so i l))
     ∙ sym (total-sum (countOf b) (rowAt b))
     ∙ so .exact
 
@@ -49,7 +49,7 @@ run-used b f t so l = omega (arith, sizes-le b t (countOf b) l, sizes-used b so)
 
 -- THE WALK
 module _ (b : List ℕ) (f t : ℕ) where
-  one-more : (i : ℕ) → sizesOf b (i + 1) ≡ sizesOf b i + sizeOf (slotOf b i)
+  one-more : (i : ℕ) → sizesOf b (i + 1) ≡ sizesOf b i + sizeAt b i
   unfolding sizesOf
   one-more i = ap (sizesOf b) (add-one i)
 
@@ -58,7 +58,7 @@ module _ (b : List ℕ) (f t : ℕ) where
 
   module _ (i n : ℕ) (w : Summing b f t i n) where
     -- row i has k bytes
-    pub summing-more : i < t → (k : ℕ) → k ≡ sizeOf (slotOf b i) → k < 2 ^ 34 → Summing b f t (i + 1) (n + k)
+    pub summing-more : i < t → (k : ℕ) → k ≡ sizeAt b i → k < 2 ^ 34 → Summing b f t (i + 1) (n + k)
     summing-more l k e m = record { low = omega (arith, w .low); high = omega (arith, w .low); few = omega (arith, w .few); is = omega (arith, w .is, one-more i, e) }
 
     pub summed : t ≤ i → n ≡ runSize b f t

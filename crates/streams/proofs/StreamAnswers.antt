@@ -18,9 +18,9 @@ use Rattle.model.specs.Calls.{Print, Prints, printed, valueCount}
 use Rattle.model.proofs.Numbers.{numbered, zero-numbered}
 use Rattle.store.specs.Layout.{countOf, usedOf}
 use Rattle.store.specs.Rows.{rowsOf}
-use Rattle.store.specs.Packages.{isPackage}
 use Rattle.contract.specs.Holds.{Holds}
 use Rattle.contract.specs.Ran.{Ran}
+use Rattle.contract.specs.Opening.{Open}
 use Rattle.contract.proofs.Rans.{wrote}
 use Rattle.streams.specs.Streams.{linesOf, streamOf, runSize, Listed, Streamed, Answered}
 use Rattle.streams.proofs.RowSizes.{run-used}
@@ -64,7 +64,7 @@ module _ (b : List ℕ) (f t : ℕ) (head foot : Bytes) (k : t ≤ countOf b) (u
     }
 
 -- such an answer is the ledger's, where the ledger prints the stream
-pub stream-ran : (b : List ℕ) → isPackage b ≡ true → (w : Print) → valueCount w ≡ 1 → (out : Bytes) (f t : ℕ) (head foot : Bytes) (a : Answer) → Answered b f t head foot out a
+pub stream-ran : (b : List ℕ) → Open b → (w : Print) → valueCount w ≡ 1 → (out : Bytes) (f t : ℕ) (head foot : Bytes) (a : Answer) → Answered b f t head foot out a
     → ((S : State) → Holds b S → printed S (length out) w ≡ Text (streamOf b f t head foot) []) → Ran (Prints w out) b a b
 stream-ran b o w v out f t head foot a x e =
     wrote b o w out a (x .numbered) (x .kept) (λ S h. rw (e S h, v) (x .is (h .lies .sound)))

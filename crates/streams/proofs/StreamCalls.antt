@@ -3,7 +3,7 @@
 use Prim.Native.Nat.{ℕ, _+_}
 use mathlib.Core.Path.{_≡_, refl, ap, ap₂, sym, subst, _∙_}
 use mathlib.Core.Bool.{true}
-use mathlib.Core.List.{List, [], _∷_, _++_, map, append-assoc}
+use mathlib.Core.List.{List, [], _∷_, _++_, map, append-assoc, flatMap}
 use native.Mathlib.Nat.{add-zero}
 use lib.ListN.{length, length-append, length-map}
 use lib.Seq.{slice, take-append-seam}
@@ -14,25 +14,25 @@ use Rattle.output.specs.Answers.{Answer, answer, ofWritten}
 use Rattle.targets.specs.Targets.{sourceRefusal}
 use Rattle.output.specs.declared.writing.Written.the-variants.{Refused}
 use Rattle.output.proofs.Answering.{refusing-is}
-use Rattle.model.specs.Sets.{Bytes, joined}
+use Rattle.model.specs.Sets.{Bytes}
 use Rattle.model.specs.Places.{firstWhere, bound}
 use Rattle.model.specs.Package.{Relationship, State, keyOfRelationship}
 use Rattle.model.specs.Texts.{declaration, defaultLine, overrideLine, relationshipLine, ofSource, typesText, relationshipsText}
 use Rattle.model.specs.Calls.{Prints, WriteTypes, WriteRelationships, Numbered, printed}
 use Rattle.model.proofs.Numbers.{source-field-numbered}
 use Rattle.model.proofs.Lists.{slice-map, slice-append}
-use Rattle.model.proofs.Joins.{joined-append, joined-map}
+use Rattle.model.proofs.Joins.{flatMap-append, flatMap-map}
 use Rattle.model.proofs.Groups.{tilde, source-between}
 use Rattle.store.specs.Rows.{Row, rowsOf}
-use Rattle.store.specs.Packages.{isPackage}
-use Rattle.contract.specs.Rows.{itemRow, defaultRow, overrideRow, relationshipRow, otherRows, rowsFor, second, keyIn, rowKey}
+use Rattle.contract.specs.Rows.{itemRow, defaultRow, overrideRow, relationshipRow, relationshipRows, otherRows, rowsFor, second, keyIn, rowKey}
 use Rattle.contract.specs.Holds.{Holds}
 use Rattle.contract.specs.Searches.{Bounded}
 use Rattle.contract.specs.Ran.{Ran}
+use Rattle.contract.specs.Opening.{Open}
+use Rattle.contract.proofs.RowKinds.{relationship-rows}
 use Rattle.contract.proofs.RowOrders.{set-bound, holds-ordered}
 use Rattle.contract.proofs.ItemRows.{item-count}
 use Rattle.contract.proofs.SetRows.{none-before}
-use Rattle.contract.proofs.SetStates.{relationships-among}
 use Rattle.parts.proofs.TextAnswers.{text-refused}
 use Rattle.streams.specs.EntryLines.{lineOf}
 use Rattle.streams.specs.Streams.{linesOf, streamOf, Answered}
@@ -55,12 +55,10 @@ module _ (S : State) where
 module _ (b : List ℕ) (S : State) (h : Holds b S) where
   -- where a key stands among the relationships
   relationship-bound : (p id : Bytes) (r : ℕ) → Bounded b (keyIn 3 p 0 id) r → r ≡ length (I S ++ (D S ++ O S)) + bound keyOfRelationship (fold p, id) (S .relationships)
-  unfolding second relationships-among
+  unfolding second relationship-rows
   relationship-bound p id r e =
-      let A = relationships-among S in
-      e .is (holds-ordered b S h)
-      ∙ ap (λ (rs : List Row). bound rowKey (3 ∷ fold p, id) rs) (h .lies .rows ∙ A .own)
-      ∙ set-bound keyOfRelationship relationshipRow 3 (A .keyed) (fold p, id) (A .front) (A .back) (S .relationships) (A .below) (A .above)
+      e .is (holds-ordered b S h) ∙ ap (λ (rs : List Row). bound rowKey (3 ∷ fold p, id) rs) (h .lies .rows)
+      ∙ set-bound relationshipRows relationship-rows (fold p, id) S
 
   -- TYPES: from the least key of the Defaults to that of the relationships
   module _ (f t : ℕ) (ef : Bounded b (keyIn 1 [] 0 []) f) (et : Bounded b (keyIn 3 [] 0 []) t) where
@@ -78,17 +76,17 @@ module _ (b : List ℕ) (S : State) (h : Holds b S) where
         let e : rowsOf b ≡ I S ++ (X ++ R S) = h .lies .rows ∙ ap (λ (l : List Row). I S ++ l) (sym (append-assoc (D S) (O S) (R S))) in
         rw (a, c, e) (slice-append (I S) (X ++ R S) 0 (length X) ∙ take-append-seam X (R S))
 
-    types-lines : linesOf f t (rowsOf b) ≡ joined defaultLine (S .defaults) ++ joined overrideLine (S .overrides)
+    types-lines : linesOf f t (rowsOf b) ≡ flatMap defaultLine (S .defaults) ++ flatMap overrideLine (S .overrides)
     types-lines =
-        ap (joined lineOf) types-rows
-        ∙ joined-append lineOf (D S) (O S)
-        ∙ ap₂ _++_ (joined-map defaultRow lineOf defaultLine default-row-line (S .defaults)) (joined-map overrideRow lineOf overrideLine override-row-line (S .overrides))
+        ap (flatMap lineOf) types-rows
+        ∙ flatMap-append lineOf (D S) (O S)
+        ∙ ap₂ _++_ (flatMap-map defaultRow lineOf defaultLine default-row-line (S .defaults)) (flatMap-map overrideRow lineOf overrideLine override-row-line (S .overrides))
 
     types-stream : streamOf b f t (ascii "<Types xmlns=\"http://schemas.openxmlformats.org/package/2006/content-types\">\n") (ascii "</Types>\n") ≡ typesText S
     unfolding typesText
     types-stream =
         ap (λ (l : Bytes). declaration ++ (ascii "<Types xmlns=\"http://schemas.openxmlformats.org/package/2006/content-types\">\n" ++ l))
-        (ap (λ (l : Bytes). l ++ ascii "</Types>\n") types-lines ∙ append-assoc (joined defaultLine (S .defaults)) (joined overrideLine (S .overrides)) (ascii "</Types>\n"))
+        (ap (λ (l : Bytes). l ++ ascii "</Types>\n") types-lines ∙ append-assoc (flatMap defaultLine (S .defaults)) (flatMap overrideLine (S .overrides)) (ascii "</Types>\n"))
 
   -- RELATIONSHIPS of the source s: from its first key to one behind all its ids
   module _ (s : Bytes) (f t : ℕ) (ef : Bounded b (keyIn 3 s 0 []) f) (et : Bounded b (keyIn 3 s 0 (tilde ∷ [])) t) where
@@ -107,10 +105,10 @@ module _ (b : List ℕ) (S : State) (h : Holds b S) where
     unfolding relationshipsText
     source-stream =
         ap (λ (l : Bytes). declaration ++ (ascii "<Relationships xmlns=\"http://schemas.openxmlformats.org/package/2006/relationships\">\n" ++ (l ++ ascii "</Relationships>\n")))
-        (ap (joined lineOf) source-rows ∙ joined-map relationshipRow lineOf relationshipLine relationship-row-line (ofSource s (S .relationships)))
+        (ap (flatMap lineOf) source-rows ∙ flatMap-map relationshipRow lineOf relationshipLine relationship-row-line (ofSource s (S .relationships)))
 
 -- EACH WAY OUT
-module _ (b : List ℕ) (o : isPackage b ≡ true) where
+module _ (b : List ℕ) (o : Open b) where
   pub types-written : (f t : ℕ) → Bounded b (keyIn 1 [] 0 []) f → Bounded b (keyIn 3 [] 0 []) t → (out : Bytes) (a : Answer)
       → Answered b f t (ascii "<Types xmlns=\"http://schemas.openxmlformats.org/package/2006/content-types\">\n") (ascii "</Types>\n") out a → Ran (Prints WriteTypes out) b a b
   unfolding printed

@@ -3,22 +3,22 @@
 -- Assumes nothing.
 use Prim.Native.Nat.{ℕ, zero, suc, _+_, _-_, _*_, _^_, _≤_, _<_}
 use mathlib.Core.Path.{_≡_}
-use mathlib.Core.List.{List, [], _++_}
+use mathlib.Core.List.{List, _++_, flatMap}
 use lib.ListN.{length}
 use lib.Seq.{slice}
 use Rattle.output.specs.Answers.{Answer, Text, written}
 use Rattle.output.specs.Sends.{Sent}
-use Rattle.model.specs.Sets.{Bytes, joined}
+use Rattle.model.specs.Sets.{Bytes}
 use Rattle.model.specs.Texts.{declaration}
 use Rattle.model.specs.Calls.{Numbered}
-use Rattle.store.specs.Layout.{slotCount, countOf, usedOf, slotOf, sizeOf}
-use Rattle.store.specs.Rows.{Row, rowAt, rowsOf}
+use Rattle.store.specs.Layout.{slotCount, countOf, usedOf}
+use Rattle.store.specs.Rows.{Row, rowAt, sizeAt, rowsOf}
 use Rattle.store.specs.Packages.{Sound}
 use Rattle.streams.specs.EntryLines.{lineOf}
 
 -- the lines of the rows from f up to t, t itself not included
 abbrev pub linesOf : ℕ → ℕ → List Row → Bytes
-linesOf f t rows = joined lineOf (slice f t rows)
+linesOf f t rows = flatMap lineOf (slice f t rows)
 
 -- no line is longer: a field is below 2 ^ 32 bytes, and each of its bytes is written as five at most
 abbrev pub lineLimit : ℕ
@@ -57,7 +57,7 @@ pub record Streamed (b : List ℕ) (f t : ℕ) (head foot : Bytes) (out : List �
 -- the bytes of the first n rows together, as the slots tell
 unfoldable pub sizesOf : List ℕ → ℕ → ℕ
 sizesOf b zero = 0
-sizesOf b (suc n) = sizesOf b n + sizeOf (slotOf b n)
+sizesOf b (suc n) = sizesOf b n + sizeAt b n
 
 -- and those of the rows from f up to t
 abbrev pub runSize : List ℕ → ℕ → ℕ → ℕ

@@ -1,23 +1,26 @@
 // The calls that write a stream. Rows stand in the order of their keys, so what is listed is a run of them, found by its ends.
 use crate::listing::write_stream;
+use contract::DEFAULTS;
+use contract::RELATIONSHIPS;
+use contract::gate::opened;
 use contract::search::bound;
 use contract::search::set_start;
 use output::writing::Written;
-use store::header::is_package;
 use targets::targets::source_refusal;
 ghost use Rattle.output.specs.Answers.{ofWritten};
 ghost use Rattle.model.specs.Calls.{Call, Print};
 ghost use Rattle.contract.specs.Ran.{Ran};
 
-// The Defaults, then the Overrides: the sets 1 and 2.
+// The Defaults, then the Overrides: the sets before the relationships.
 pub fn write_types(pkg: &[u8], out: &mut [u8]) -> Written
     ensures { λ r. ⌜ Ran (Call.Prints Print.WriteTypes (now (out .entry))) (now (pkg .entry)) (ofWritten r (now (out .exit))) (now (pkg .entry)) ⌝ }
 {
-    if !is_package(pkg) {
-        return Written::Refused(1);
+    let k = opened(pkg);
+    if k != 0 {
+        return Written::Refused(k);
     }
-    let from = set_start(pkg, 1);
-    let to = set_start(pkg, 3);
+    let from = set_start(pkg, DEFAULTS);
+    let to = set_start(pkg, RELATIONSHIPS);
     write_stream(
         pkg,
         from,
@@ -32,15 +35,16 @@ pub fn write_types(pkg: &[u8], out: &mut [u8]) -> Written
 pub fn write_relationships(pkg: &[u8], source: &[u8], out: &mut [u8]) -> Written
     ensures { λ r. ⌜ Ran (Call.Prints (Print.WriteRelationships (now (source .entry))) (now (out .entry))) (now (pkg .entry)) (ofWritten r (now (out .exit))) (now (pkg .entry)) ⌝ }
 {
-    if !is_package(pkg) {
-        return Written::Refused(1);
+    let k = opened(pkg);
+    if k != 0 {
+        return Written::Refused(k);
     }
     let k = source_refusal(source);
     if k != 0 {
         return Written::Refused(k);
     }
-    let from = bound(pkg, 3, source, 0, b"");
-    let to = bound(pkg, 3, source, 0, b"~");
+    let from = bound(pkg, RELATIONSHIPS, source, 0, b"");
+    let to = bound(pkg, RELATIONSHIPS, source, 0, b"~");
     write_stream(
         pkg,
         from,

@@ -1,17 +1,19 @@
 // A stream with the lines of a run of rows.
 use crate::markup::put_relationship;
 use crate::markup::put_type;
+use contract::DEFAULT_TAG;
+use contract::OVERRIDE_TAG;
 use output::writing::Written;
 use output::writing::emit;
 use store::header::used;
 use store::rows::field;
+use store::rows::row_size;
 use store::rows::tag;
-use store::slots::size;
 ghost use mathlib.Core.Path.{_≡_};
 ghost use Prim.Native.Nat.{_^_, _≤_};
 ghost use lib.ListN.{length};
 ghost use Rattle.output.specs.Answers.{ofWritten};
-ghost use Rattle.store.specs.Layout.{slotCount, heapStart, countOf};
+ghost use Rattle.store.specs.Layout.{slotCount, countOf};
 ghost use Rattle.store.specs.Packages.{Shape};
 ghost use Rattle.streams.specs.Streams.{runSize, Lined, Listed, Streamed, Answered};
 
@@ -21,7 +23,7 @@ fn put_line(pkg: &[u8], i: usize, out: &mut [u8], at: usize) -> usize
     ensures { λ r. ⌜ Lined (now (pkg .entry)) i (now (out .entry)) at r (now (out .exit)) ⌝ }
 {
     let t = tag(pkg, i);
-    if t == 32768 {
+    if t == DEFAULT_TAG {
         return put_type(
             out,
             at,
@@ -30,7 +32,7 @@ fn put_line(pkg: &[u8], i: usize, out: &mut [u8], at: usize) -> usize
             field(pkg, i, 1),
         );
     }
-    if t == 32769 {
+    if t == OVERRIDE_TAG {
         return put_type(
             out,
             at,
@@ -76,13 +78,13 @@ fn put_stream(pkg: &[u8], from: usize, to: usize, head: &[u8], foot: &[u8], out:
 
 // How many bytes the rows from one up to, not including, the row `to` have together, as their slots tell.
 fn run_size(pkg: &[u8], from: usize, to: usize) -> usize
-    requires { ⌜ (to ≤ slotCount) × (heapStart ≤ length (now pkg)) ⌝ }
+    requires { ⌜ Shape (now pkg) × (to ≤ countOf (now pkg)) ⌝ }
     ensures { λ r. ⌜ r ≡ runSize (now (pkg .entry)) from to ⌝ }
 {
     let mut n = 0;
     let mut i = from;
     while i < to {
-        n += size(pkg, i);
+        n += row_size(pkg, i);
         i += 1;
     }
     n

@@ -1,5 +1,6 @@
 // The lines of an XML stream. Each function sends its text to a place of the output and says the next place, whether it fits or not.
 use chars::search::find;
+use contract::EXTERNAL_TAG;
 use output::writing::emit;
 ghost use mathlib.Core.List.{_++_};
 ghost use Prim.Native.Nat.{_^_, _≤_, _<_};
@@ -51,7 +52,7 @@ fn put_mode(out: &mut [u8], at: usize, tag: usize) -> usize
     requires { ⌜ at ≤ 2 ^ 55 ⌝ }
     ensures { λ r. ⌜ Sent (now (out .entry)) at (modeEnd tag) r (now (out .exit)) ⌝ }
 {
-    if tag == 32771 {
+    if tag == EXTERNAL_TAG {
         return emit(out, at, b"\" TargetMode=\"External\"/>\n");
     }
     emit(out, at, b"\"/>\n")

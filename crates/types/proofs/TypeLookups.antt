@@ -4,7 +4,7 @@ use Prim.Native.Nat.{ℕ, _+_, _-_, _≤_, _<_}
 use mathlib.Core.Path.{_≡_, refl, ap, sym, _∙_, subst}
 use mathlib.Core.Bool.{Bool, true, false, not, cond}
 use mathlib.Core.List.{List, [], _∷_}
-use mathlib.Core.Option.{Option, none, some}
+use mathlib.Core.Option.{Option, none, some, Option·none-ne-some, Option·some-injective}
 use native.Mathlib.Omega.{arith}
 use lib.Dec.{eqb}
 use lib.ListN.{length, take, drop, length-drop}
@@ -18,20 +18,21 @@ use Rattle.names.specs.Names.{partName, lastSegment, extensionAt}
 use Rattle.model.specs.Sets.{Bytes, lookup}
 use Rattle.model.specs.Fields.{first}
 use Rattle.model.specs.Package.{State, Default, Override, nameKey, keyOfDefault, keyOfOverride, typeOf, typeOfDefault, defaultFor, mediaTypeOf}
-use Rattle.model.specs.Calls.{Prints, MediaType, printed, withDefaults, withOverrides}
-use Rattle.model.proofs.Lookups.{none-some, some-eq}
+use Rattle.model.specs.Calls.{Prints, MediaType, printed}
 use Rattle.model.proofs.Numbers.{numbered}
 use Rattle.store.specs.Layout.{countOf}
 use Rattle.store.specs.Rows.{Row, rowAt, rowsOf, fieldOf}
-use Rattle.store.specs.Packages.{Sound, isPackage}
-use Rattle.contract.specs.Rows.{second, keyIn, rowKey, defaultRow, overrideRow}
+use Rattle.store.specs.Packages.{Sound}
+use Rattle.contract.specs.Rows.{second, keyIn, rowKey, defaultRow, overrideRow, defaultRows, overrideRows}
 use Rattle.contract.specs.Holds.{Holds}
 use Rattle.contract.specs.Entries.{Sought}
 use Rattle.contract.specs.Ran.{Ran}
+use Rattle.contract.specs.Opening.{Open}
 use Rattle.contract.proofs.RowOrders.{holds-ordered}
 use Rattle.contract.proofs.RowEntries.{row-here, row-none}
 use Rattle.contract.proofs.SetRows.{rowFor}
-use Rattle.contract.proofs.SetStates.{found-row, overrides-among, defaults-among}
+use Rattle.contract.proofs.RowKinds.{override-rows, default-rows}
+use Rattle.contract.proofs.SetStates.{found-row}
 use Rattle.parts.specs.Runs.{PartOf}
 use Rattle.parts.proofs.TextAnswers.{text-refused, text-answered}
 use Rattle.types.specs.TypeRows.{Typed}
@@ -39,30 +40,30 @@ use Rattle.types.specs.TypeRows.{Typed}
 -- a type stands in the second field of its entry's row
 override-type : (o : Option Override) (d : Option Default) (y : Row) → rowFor overrideRow o ≡ some y → typeOf o d ≡ some (fieldOf y 1)
 unfolding overrideRow fieldOf
-override-type none d y e = absurd (none-some y e)
-override-type (some x) d y e = ap (λ (w : Row). some (fieldOf w 1)) (some-eq (overrideRow x) y e)
+override-type none d y e = absurd (Option·none-ne-some y e)
+override-type (some x) d y e = ap (λ (w : Row). some (fieldOf w 1)) (Option·some-injective (overrideRow x) y e)
 
 override-none : (o : Option Override) → rowFor overrideRow o ≡ none → o ≡ none
 override-none none e = refl
-override-none (some x) e = absurd (none-some (overrideRow x) (sym e))
+override-none (some x) e = absurd (Option·none-ne-some (overrideRow x) (sym e))
 
 default-type : (o : Option Default) (y : Row) → rowFor defaultRow o ≡ some y → typeOfDefault o ≡ some (fieldOf y 1)
 unfolding defaultRow fieldOf
-default-type none y e = absurd (none-some y e)
-default-type (some x) y e = ap (λ (w : Row). some (fieldOf w 1)) (some-eq (defaultRow x) y e)
+default-type none y e = absurd (Option·none-ne-some y e)
+default-type (some x) y e = ap (λ (w : Row). some (fieldOf w 1)) (Option·some-injective (defaultRow x) y e)
 
 default-none : (o : Option Default) → rowFor defaultRow o ≡ none → typeOfDefault o ≡ none
 default-none none e = refl
-default-none (some x) e = absurd (none-some (defaultRow x) (sym e))
+default-none (some x) e = absurd (Option·none-ne-some (defaultRow x) (sym e))
 
 module _ (b : List ℕ) (S : State) (h : Holds b S) (s : Bytes) where
   override-row : lookup rowKey (keyIn 2 s 0 []) (rowsOf b) ≡ rowFor overrideRow (lookup keyOfOverride (nameKey s) (S .overrides))
   unfolding second
-  override-row = found-row keyOfOverride overrideRow 2 S (S .overrides) (withOverrides S) (overrides-among S) b h (nameKey s)
+  override-row = found-row overrideRows override-rows b S h (nameKey s)
 
   default-row : lookup rowKey (keyIn 1 s 0 []) (rowsOf b) ≡ rowFor defaultRow (lookup keyOfDefault (nameKey s) (S .defaults))
   unfolding second
-  default-row = found-row keyOfDefault defaultRow 1 S (S .defaults) (withDefaults S) (defaults-among S) b h (nameKey s)
+  default-row = found-row defaultRows default-rows b S h (nameKey s)
 
 pub extension-le : (s : Bytes) → extensionAt s ≤ length s
 unfolding extensionAt
@@ -103,7 +104,7 @@ module _ (b : List ℕ) (s : Bytes) (r m : ℕ) (er : Sought b (keyIn 2 s 0 []) 
         }
 
 -- EACH WAY OUT OF THE CALL; q is the test of the name, y whether it is a part
-module _ (b : List ℕ) (o : isPackage b ≡ true) (name out : Bytes) (q : Bool) (eq : q ≡ partName name) where
+module _ (b : List ℕ) (o : Open b) (name out : Bytes) (q : Bool) (eq : q ≡ partName name) where
   -- "4 not a part name"
   pub type-misnamed : not q ≡ true → Ran (Prints (MediaType name) out) b (answer 4 (0 ∷ []) out) b
   unfolding printed first

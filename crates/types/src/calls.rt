@@ -1,65 +1,121 @@
 // The calls on Defaults and Overrides.
+use contract::DEFAULTS;
+use contract::DEFAULT_LIMIT;
+use contract::DEFAULT_TAG;
+use contract::OVERRIDES;
+use contract::OVERRIDE_LIMIT;
+use contract::OVERRIDE_TAG;
 use contract::answers::Did;
 use contract::entries::drop_row;
 use contract::entries::put_row;
+use contract::gate::opened;
 use names::parts::is_part_name;
 use names::types::is_extension;
 use names::types::is_media_type;
-use store::header::is_package;
+ghost use mathlib.Core.Path.{_≡_};
+ghost use Rattle.model.specs.Fields.{extensionField, partField, defaultFields, overrideFields};
 ghost use Rattle.model.specs.Calls.{Call, Change};
 ghost use Rattle.contract.specs.Answers.{ofDid};
 ghost use Rattle.contract.specs.Ran.{Ran};
 
+// The refusal of an extension.
+fn extension_refusal(extension: &[u8]) -> u8
+    ensures { λ r. ⌜ r ≡ extensionField (now (extension .entry)) ⌝ }
+{
+    if is_extension(extension) {
+        return 0;
+    }
+    7
+}
+
+// The refusal of a part name.
+fn name_refusal(name: &[u8]) -> u8
+    ensures { λ r. ⌜ r ≡ partField (now (name .entry)) ⌝ }
+{
+    if is_part_name(name) {
+        return 0;
+    }
+    4
+}
+
+// The refusal of a Default's fields.
+fn default_refusal(extension: &[u8], media: &[u8]) -> u8
+    ensures { λ r. ⌜ r ≡ defaultFields (now (extension .entry)) (now (media .entry)) ⌝ }
+{
+    if !is_extension(extension) {
+        return 7;
+    }
+    if !is_media_type(media) {
+        return 7;
+    }
+    0
+}
+
+// The refusal of an Override's fields.
+fn override_refusal(name: &[u8], media: &[u8]) -> u8
+    ensures { λ r. ⌜ r ≡ overrideFields (now (name .entry)) (now (media .entry)) ⌝ }
+{
+    if !is_part_name(name) {
+        return 4;
+    }
+    if !is_media_type(media) {
+        return 7;
+    }
+    0
+}
+
 pub fn put_default(pkg: &mut [u8], extension: &[u8], media: &[u8]) -> Did
     ensures { λ r. ⌜ Ran (Call.Changes (Change.PutDefault (now (extension .entry)) (now (media .entry)))) (now (pkg .entry)) (ofDid r) (now (pkg .exit)) ⌝ }
 {
-    if !is_package(pkg) {
-        return Did::Refused(1);
+    let k = opened(pkg);
+    if k != 0 {
+        return Did::Refused(k);
     }
-    if !is_extension(extension) {
-        return Did::Refused(7);
+    let k = default_refusal(extension, media);
+    if k != 0 {
+        return Did::Refused(k);
     }
-    if !is_media_type(media) {
-        return Did::Refused(7);
-    }
-    put_row(pkg, 64, 32768, extension, media, b"", b"")
+    put_row(pkg, DEFAULT_LIMIT, DEFAULT_TAG, extension, media, b"", b"")
 }
 
 pub fn drop_default(pkg: &mut [u8], extension: &[u8]) -> Did
     ensures { λ r. ⌜ Ran (Call.Changes (Change.DropDefault (now (extension .entry)))) (now (pkg .entry)) (ofDid r) (now (pkg .exit)) ⌝ }
 {
-    if !is_package(pkg) {
-        return Did::Refused(1);
+    let k = opened(pkg);
+    if k != 0 {
+        return Did::Refused(k);
     }
-    if !is_extension(extension) {
-        return Did::Refused(7);
+    let k = extension_refusal(extension);
+    if k != 0 {
+        return Did::Refused(k);
     }
-    drop_row(pkg, 1, extension, b"")
+    drop_row(pkg, DEFAULTS, extension, b"")
 }
 
 pub fn put_override(pkg: &mut [u8], name: &[u8], media: &[u8]) -> Did
     ensures { λ r. ⌜ Ran (Call.Changes (Change.PutOverride (now (name .entry)) (now (media .entry)))) (now (pkg .entry)) (ofDid r) (now (pkg .exit)) ⌝ }
 {
-    if !is_package(pkg) {
-        return Did::Refused(1);
+    let k = opened(pkg);
+    if k != 0 {
+        return Did::Refused(k);
     }
-    if !is_part_name(name) {
-        return Did::Refused(4);
+    let k = override_refusal(name, media);
+    if k != 0 {
+        return Did::Refused(k);
     }
-    if !is_media_type(media) {
-        return Did::Refused(7);
-    }
-    put_row(pkg, 64, 32769, name, media, b"", b"")
+    put_row(pkg, OVERRIDE_LIMIT, OVERRIDE_TAG, name, media, b"", b"")
 }
 
 pub fn drop_override(pkg: &mut [u8], name: &[u8]) -> Did
     ensures { λ r. ⌜ Ran (Call.Changes (Change.DropOverride (now (name .entry)))) (now (pkg .entry)) (ofDid r) (now (pkg .exit)) ⌝ }
 {
-    if !is_package(pkg) {
-        return Did::Refused(1);
+    let k = opened(pkg);
+    if k != 0 {
+        return Did::Refused(k);
     }
-    if !is_part_name(name) {
-        return Did::Refused(4);
+    let k = name_refusal(name);
+    if k != 0 {
+        return Did::Refused(k);
     }
-    drop_row(pkg, 2, name, b"")
+    drop_row(pkg, OVERRIDES, name, b"")
 }

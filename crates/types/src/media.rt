@@ -1,12 +1,14 @@
 // The media type of a part.
+use contract::DEFAULTS;
+use contract::OVERRIDES;
 use contract::entries::locate;
+use contract::gate::opened;
 use names::parts::extension_at;
 use names::parts::is_part_name;
 use output::writing::Written;
 use output::writing::put_text;
 use parts::runs::is_part;
 use store::header::count;
-use store::header::is_package;
 use store::rows::field;
 ghost use Rattle.output.specs.Answers.{ofWritten};
 ghost use Rattle.model.specs.Calls.{Call, Print};
@@ -20,7 +22,7 @@ pub fn type_row(pkg: &[u8], name: &[u8]) -> usize
     ensures { λ r. ⌜ Typed (now (pkg .entry)) (now (name .entry)) r ⌝ }
 {
     let m = count(pkg);
-    let r = locate(pkg, 2, name, 0, b"");
+    let r = locate(pkg, OVERRIDES, name, 0, b"");
     if r < m {
         return r;
     }
@@ -28,15 +30,16 @@ pub fn type_row(pkg: &[u8], name: &[u8]) -> usize
     if i == 0 {
         return m;
     }
-    locate(pkg, 1, &name[i..], 0, b"")
+    locate(pkg, DEFAULTS, &name[i..], 0, b"")
 }
 
 // The media type of a part: its Override's, else that of the Default of its extension.
 pub fn media_type(pkg: &[u8], name: &[u8], out: &mut [u8]) -> Written
     ensures { λ r. ⌜ Ran (Call.Prints (Print.MediaType (now (name .entry))) (now (out .entry))) (now (pkg .entry)) (ofWritten r (now (out .exit))) (now (pkg .entry)) ⌝ }
 {
-    if !is_package(pkg) {
-        return Written::Refused(1);
+    let k = opened(pkg);
+    if k != 0 {
+        return Written::Refused(k);
     }
     if !is_part_name(name) {
         return Written::Refused(4);

@@ -3,6 +3,8 @@
 
 #![allow(dead_code)] // each benchmark uses its own share
 
+pub mod package;
+
 use std::hint::black_box;
 
 /// How many rounds are timed, behind one to warm up.

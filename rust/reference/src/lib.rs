@@ -3,6 +3,7 @@
 //! It shares no code with the engine. Tests give both the same inputs and
 //! compare every answer and every output byte; benchmarks use it as yardstick.
 
+pub mod examples;
 pub mod iri;
 pub mod ledger;
 pub mod names;
@@ -10,6 +11,7 @@ pub mod pack;
 pub mod relationships;
 pub mod script;
 pub mod sheet;
+mod xml;
 
 /// Why a call is refused. Refusal 1 (no package) has no case: the ledger
 /// doesn't live in a buffer.

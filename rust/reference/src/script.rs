@@ -38,7 +38,7 @@ pub fn run(
             reply.copy_from_slice(&reply_bytes(1, Err(refusal)));
             break;
         };
-        let values = call.make(ledger, length, lent);
+        let values = make(ledger, length, call.code, call.texts, call.number, lent);
         reply.copy_from_slice(&reply_bytes(call.count(), values));
         read += call.size;
         calls += 1;
@@ -76,41 +76,51 @@ impl<'a> Call<'a> {
             _ => 1,
         }
     }
+}
 
-    fn make(&self, ledger: &mut Ledger, length: u64, out: &mut [u8]) -> Result<[u64; 3], Refusal> {
-        let ([a, b, c, d], n) = (self.texts, self.number);
-        let done = |()| [0; 3];
-        let one = |value: usize| [value as u64, 0, 0];
-        match self.code {
-            1 => ledger.start(length, n).map(done),
-            2 => ledger.put_item(a, b).map(done),
-            3 => ledger.drop_item(a).map(done),
-            4 => ledger.put_default(a, b).map(done),
-            5 => ledger.drop_default(a).map(done),
-            6 => ledger.put_override(a, b).map(done),
-            7 => ledger.drop_override(a).map(done),
-            8 => ledger.put_relationship(a, b, c, n, d).map(done),
-            9 => ledger.drop_relationship(a, b).map(done),
-            10 => ledger.find_item(a).map(one),
-            11 => {
-                let part = ledger.view_item(a);
-                let copied = part.len().min(out.len());
-                out[..copied].copy_from_slice(&part[..copied]);
-                Ok(one(part.len()))
-            }
-            12 => {
-                let totals = ledger.totals();
-                Ok([totals.items, totals.parts, totals.charge])
-            }
-            13 => ledger.read_part(a, n, out).map(one),
-            14 => ledger.media_type(a, out).map(one),
-            15 => ledger.part_at(n, out).map(one),
-            16 => ledger
-                .resolve_relationship(a, b, c, out)
-                .map(|found| [found.length as u64, found.mode, u64::from(found.held)]),
-            17 => ledger.write_types(out).map(one),
-            _ => ledger.write_relationships(a, out).map(one),
+/// Makes a call by its code, its texts and its number, on the ledger of a
+/// package of `length` bytes.
+pub fn make(
+    ledger: &mut Ledger,
+    length: u64,
+    code: u32,
+    texts: [&[u8]; 4],
+    number: u64,
+    out: &mut [u8],
+) -> Result<[u64; 3], Refusal> {
+    let ([a, b, c, d], n) = (texts, number);
+    let done = |()| [0; 3];
+    let one = |value: usize| [value as u64, 0, 0];
+    match code {
+        1 => ledger.start(length, n).map(done),
+        2 => ledger.put_item(a, b).map(done),
+        3 => ledger.drop_item(a).map(done),
+        4 => ledger.put_default(a, b).map(done),
+        5 => ledger.drop_default(a).map(done),
+        6 => ledger.put_override(a, b).map(done),
+        7 => ledger.drop_override(a).map(done),
+        8 => ledger.put_relationship(a, b, c, n, d).map(done),
+        9 => ledger.drop_relationship(a, b).map(done),
+        10 => ledger.find_item(a).map(one),
+        11 => {
+            let part = ledger.view_item(a);
+            let copied = part.len().min(out.len());
+            out[..copied].copy_from_slice(&part[..copied]);
+            Ok(one(part.len()))
         }
+        12 => {
+            let totals = ledger.totals();
+            Ok([totals.items, totals.parts, totals.charge])
+        }
+        13 => ledger.read_part(a, n, out).map(one),
+        14 => ledger.media_type(a, out).map(one),
+        15 => ledger.part_at(n, out).map(one),
+        16 => ledger
+            .resolve_relationship(a, b, c, out)
+            .map(|found| [found.length as u64, found.mode, u64::from(found.held)]),
+        17 => ledger.write_types(out).map(one),
+        18 => ledger.write_relationships(a, out).map(one),
+        _ => Err(Refusal::UnreadableLine),
     }
 }
 

@@ -2,6 +2,7 @@
 
 use super::{show, Resolved, Totals};
 use crate::ffi;
+use crate::lent::{ask, ask_two, write, write_two};
 use crate::Refusal;
 use std::fmt;
 
@@ -60,31 +61,16 @@ impl<'a> PackageRef<'a> {
     ///
     /// As [`Package::find_item`](super::Package::find_item).
     pub fn find_item(&self, name: &[u8]) -> Result<usize, Refusal> {
-        // SAFETY: each pointer and its length come from one slice.
-        let reply = unsafe {
-            ffi::opc_find_item(
-                self.buffer.as_ptr(),
-                self.buffer.len(),
-                name.as_ptr(),
-                name.len(),
-            )
-        };
-        reply.values().map(|[length]| length)
+        ask_two(ffi::opc_find_item, self.buffer, name)
+            .values()
+            .map(|[length]| length)
     }
 
     /// The bytes of an item, where they lie in the lent ones. Where
     /// [`PackageRef::find_item`] is refused they are none.
     #[must_use]
     pub fn view_item(&self, name: &[u8]) -> &'a [u8] {
-        // SAFETY: each pointer and its length come from one slice.
-        let reply = unsafe {
-            ffi::opc_view_item(
-                self.buffer.as_ptr(),
-                self.buffer.len(),
-                name.as_ptr(),
-                name.len(),
-            )
-        };
+        let reply = ask_two(ffi::opc_view_item, self.buffer, name);
         let [offset, length] = reply.values().expect("a view is never refused");
         &self.buffer[offset..][..length]
     }
@@ -139,9 +125,7 @@ impl<'a> PackageRef<'a> {
     ///
     /// As [`Package::totals`](super::Package::totals).
     pub fn totals(&self) -> Result<Totals, Refusal> {
-        // SAFETY: pointer and length come from one slice.
-        let reply = unsafe { ffi::opc_totals(self.buffer.as_ptr(), self.buffer.len()) };
-        let [items, parts, charge] = reply.values()?;
+        let [items, parts, charge] = ask(ffi::opc_totals, self.buffer).values()?;
         Ok(Totals {
             items,
             parts,
@@ -155,19 +139,9 @@ impl<'a> PackageRef<'a> {
     ///
     /// As [`Package::media_type`](super::Package::media_type).
     pub fn media_type(&self, name: &[u8], out: &mut [u8]) -> Result<usize, Refusal> {
-        // SAFETY: each pointer and its length come from one slice; the
-        // output's is lent for writing.
-        let reply = unsafe {
-            ffi::opc_media_type(
-                self.buffer.as_ptr(),
-                self.buffer.len(),
-                name.as_ptr(),
-                name.len(),
-                out.as_mut_ptr(),
-                out.len(),
-            )
-        };
-        reply.values().map(|[length]| length)
+        write_two(ffi::opc_media_type, self.buffer, name, out)
+            .values()
+            .map(|[length]| length)
     }
 
     /// Writes the IRI that a relationship leads to, in a package whose IRI is
@@ -208,17 +182,9 @@ impl<'a> PackageRef<'a> {
     ///
     /// As [`Package::write_types`](super::Package::write_types).
     pub fn write_types(&self, out: &mut [u8]) -> Result<usize, Refusal> {
-        // SAFETY: each pointer and its length come from one slice; the
-        // output's is lent for writing.
-        let reply = unsafe {
-            ffi::opc_write_types(
-                self.buffer.as_ptr(),
-                self.buffer.len(),
-                out.as_mut_ptr(),
-                out.len(),
-            )
-        };
-        reply.values().map(|[length]| length)
+        write(ffi::opc_write_types, self.buffer, out)
+            .values()
+            .map(|[length]| length)
     }
 
     /// Writes the Relationships part of a source and answers its length.
@@ -227,18 +193,8 @@ impl<'a> PackageRef<'a> {
     ///
     /// As [`Package::write_relationships`](super::Package::write_relationships).
     pub fn write_relationships(&self, source: &[u8], out: &mut [u8]) -> Result<usize, Refusal> {
-        // SAFETY: each pointer and its length come from one slice; the
-        // output's is lent for writing.
-        let reply = unsafe {
-            ffi::opc_write_relationships(
-                self.buffer.as_ptr(),
-                self.buffer.len(),
-                source.as_ptr(),
-                source.len(),
-                out.as_mut_ptr(),
-                out.len(),
-            )
-        };
-        reply.values().map(|[length]| length)
+        write_two(ffi::opc_write_relationships, self.buffer, source, out)
+            .values()
+            .map(|[length]| length)
     }
 }

@@ -1,6 +1,9 @@
 //! What the comparing tests share: random numbers, fragments, counting.
 
-#![allow(dead_code)] // each test file uses its own share
+#![allow(dead_code)] // each test uses its own share
+
+pub mod calls;
+pub mod outputs;
 
 use std::time::{SystemTime, UNIX_EPOCH};
 use zombirels::Refusal;
@@ -66,6 +69,16 @@ impl Random {
             text.extend_from_slice(self.pick(fragments));
         }
         text
+    }
+
+    /// Up to `most` of the segments, at least one, a slash before each.
+    pub fn name(&mut self, segments: &[&[u8]], most: usize) -> Vec<u8> {
+        let mut name = Vec::new();
+        for _ in 0..1 + self.below(most) {
+            name.push(b'/');
+            name.extend_from_slice(self.pick(segments));
+        }
+        name
     }
 
     /// `text` with each letter's case flipped at random.

@@ -7,8 +7,7 @@ use Rattle.sheet.proofs.run.Tie as tie
 
 run-all-requires : tie.Need-run-all-requires
 run-all-requires c κs =
-    let at-start' = c .before .before .before .before .before .before .before .before in
-    let at-call = at-start' in
+    let at-call = c .before .before .before .before .before .before .before .before in
     let at-start = at-call .before .before .before .before .before .before in
     ready-begin _ _ _ (started-holds _ _ _ (at-start .pre .0) (at-call .start .ensures)) (at-start .pre .1) (at-start .pre .2)
 
@@ -21,16 +20,14 @@ slice-reshare-prefix-print c =
 
 slice-aggregate-print : tie.Need-slice-aggregate-print
 slice-aggregate-print c =
-    let at-start = c .before .before .before .before .before in
-    let at-finish = at-start in
+    let at-finish = c .before .before .before .before .before in
     let at-run-all = at-finish .before .before .before .before .before .before .before .before .before .before .before .before in
     omega (arith, ready-last _ _ _ _ _ _ (at-run-all .run-all .ensures) _ _ (at-finish .finish .ensures)
     (at-finish .finish .kept .1 .1 .1 .0) .1)
 
 returns : tie.Need-returns
 returns c =
-    let at-start = c .before .before .before .before .before .before .before in
-    let at-finish = at-start in
+    let at-finish = c .before .before .before .before .before .before .before in
     let at-run-all = at-finish .before .before .before .before .before .before .before .before .before .before .before .before in
     ready-whole _ _ _ _ _ _ (at-run-all .run-all .ensures) _ _ (at-finish .finish .ensures) _ (c .print .ensures)
 

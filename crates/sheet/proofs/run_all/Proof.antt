@@ -20,47 +20,40 @@ run-some-requires c κs =
 
 sub-turns : tie.Need-sub-turns Inv-loop μ-loop
 sub-turns c =
-    let at-start = c .before .before .before .before .before .before .before .before .before .before .before .before .before .before .before .before .before in
-    let in-loop = at-start in
+    let in-loop = c .before .before .before .before .before .before .before .before .before .before .before .before .before .before .before .before .before in
     omega (arith, in-loop .loop-test .taken)
 
 loop-less : tie.Need-loop-less Inv-loop μ-loop
 loop-less c =
-    let at-start = c .before .before .before .before .before .before .before .before .before .before .before .before .before .before .before .before .before in
-    let in-loop = at-start in
+    let in-loop = c .before .before .before .before .before .before .before .before .before .before .before .before .before .before .before .before .before in
     omega (arith, in-loop .loop-test .taken)
 
 loop-again : tie.Need-loop-again Inv-loop μ-loop
 loop-again c =
-    let at-start = c .before .before .before .before .before .before .before .before .before in
-    let at-run-some = at-start in
+    let at-run-some = c .before .before .before .before .before .before .before .before .before in
     let kept = at-run-some .run-some .kept in
     let inv = at-run-some .before .before .before .before .before .before .before .before .before .loop .inv in
     (kept .0 ∙ inv .0, kept .1 .0 ∙ inv .1, kept .1 .1 .1 .0 ∙ inv .2, kept .1 .1 .1 .1 .0 ∙ inv .3, at-run-some .run-some .ensures)
 
 same-length : tie.Need-same-length Inv-loop μ-loop
 same-length c =
-    let at-start = c .before .before .before .before .before .before .before .before .before in
-    let at-run-some = at-start in
+    let at-run-some = c .before .before .before .before .before .before .before .before .before in
     at-run-some .run-some .kept .0 ∙ at-run-some .before .before .before .before .before .before .before .before .before .loop .inv .0
 
 same-length-2 : tie.Need-same-length-2 Inv-loop μ-loop
 same-length-2 c =
-    let at-start = c .before .before .before .before .before .before .before .before .before in
-    let at-run-some = at-start in
+    let at-run-some = c .before .before .before .before .before .before .before .before .before in
     at-run-some .run-some .kept .1 .0 ∙ at-run-some .before .before .before .before .before .before .before .before .before .loop .inv .1
 
 same-length-3 : tie.Need-same-length-3 Inv-loop μ-loop
 same-length-3 c =
-    let at-start = c .before .before .before .before .before .before .before .before .before in
-    let at-run-some = at-start in
+    let at-run-some = c .before .before .before .before .before .before .before .before .before in
     at-run-some .run-some .kept .1 .1 .1 .0 ∙
     at-run-some .before .before .before .before .before .before .before .before .before .loop .inv .2
 
 same-length-4 : tie.Need-same-length-4 Inv-loop μ-loop
 same-length-4 c =
-    let at-start = c .before .before .before .before .before .before .before .before .before in
-    let at-run-some = at-start in
+    let at-run-some = c .before .before .before .before .before .before .before .before .before in
     at-run-some .run-some .kept .1 .1 .1 .1 .0 ∙
     at-run-some .before .before .before .before .before .before .before .before .before .loop .inv .3
 

@@ -23,31 +23,27 @@ loop-holds c =
 
 slice-reshare-prefix-print : tie.Need-slice-reshare-prefix-print Inv-loop μ-loop
 slice-reshare-prefix-print c =
-    let at-start = c .before .before .before .before .before .before in
-    let at-feed = at-start in
+    let at-feed = c .before .before .before .before .before .before in
     let at-loop = at-feed .before .before .before .before .before in
     omega (arith, ready-fits _ _ _ _ _ _ _ _ (at-loop .loop .inv .4) (at-loop .loop .inv .3) _ _ _ _ _ _ (at-feed .feed .ensures)
     (at-feed .feed .kept .1 .1 .1 .1 .1 .0) .0)
 
 slice-aggregate-print : tie.Need-slice-aggregate-print Inv-loop μ-loop
 slice-aggregate-print c =
-    let at-start = c .before .before .before .before .before .before .before in
-    let at-feed = at-start in
+    let at-feed = c .before .before .before .before .before .before .before in
     let at-loop = at-feed .before .before .before .before .before in
     omega (arith, ready-fits _ _ _ _ _ _ _ _ (at-loop .loop .inv .4) (at-loop .loop .inv .3) _ _ _ _ _ _ (at-feed .feed .ensures)
     (at-feed .feed .kept .1 .1 .1 .1 .1 .0) .1)
 
 loop-less : tie.Need-loop-less Inv-loop μ-loop
 loop-less c =
-    let at-start = c .before .before .before .before .before .before .before .before .before in
-    let at-feed = at-start in
+    let at-feed = c .before .before .before .before .before .before .before .before .before in
     let onward = at-feed .feed .ensures .onward (at-feed .before .before .before .before .loop-test .taken) in
     omega (arith, onward .0, onward .1)
 
 loop-again : tie.Need-loop-again Inv-loop μ-loop
 loop-again c =
-    let at-start = c .before .before .before .before .before .before .before .before .before in
-    let at-feed = at-start in
+    let at-feed = c .before .before .before .before .before .before .before .before .before in
     let in-loop = at-feed .before .before .before .before in
     let inv = in-loop .before .loop .inv in
     let line = at-feed .feed .kept .1 .0 in

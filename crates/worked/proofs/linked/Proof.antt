@@ -14,8 +14,7 @@ use Rattle.worked.proofs.linked.Tie as tie
 
 same-length : tie.Need-same-length
 same-length c =
-    let at-start' = c .before .before .before .before .before .before .before .before in
-    let at-drop-relationship = at-start' in
+    let at-drop-relationship = c .before .before .before .before .before .before .before .before in
     let at-put-relationship2 = at-drop-relationship .before .before .before .before .before .before in
     let at-put-relationship = at-put-relationship2 .before .before .before .before .before .before .before .before in
     let at-start = at-put-relationship .before .before .before .before .before .before .before .before in

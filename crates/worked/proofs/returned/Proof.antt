@@ -8,34 +8,29 @@ use Rattle.worked.proofs.returned.Tie as tie
 
 slice-reshare-prefix-resolve-pack : tie.Need-slice-reshare-prefix-resolve-pack
 slice-reshare-prefix-resolve-pack c =
-    let at-n = c .before in
-    let at-start = at-n .before .before .before .before in
-    let at-compose = at-start in
+    let at-compose = c .before .before .before .before .before in
     let start = at-compose .before .before .before .before .before .before in
     let h = start .pre in
-    let few = bytes-few _ _ _ (h .0) (h .1) (h .2) (at-compose .compose .result) _ _ (at-compose .compose .ensures) (at-n .n .given .1) in
+    let few = bytes-few _ _ _ (h .0) (h .1) (h .2) (at-compose .compose .result) _ _ (at-compose .compose .ensures)
+    (c .before .n .given .1) in
     omega (arith, at-compose .compose .kept .1 .1 .0)
 
 slice-aggregate-resolve-pack : tie.Need-slice-aggregate-resolve-pack
 slice-aggregate-resolve-pack c =
-    let at-n = c .before .before in
-    let at-start = at-n .before .before .before .before in
-    let at-compose = at-start in
+    let at-compose = c .before .before .before .before .before .before in
     let start = at-compose .before .before .before .before .before .before in
     let h = start .pre in
-    let few = bytes-few _ _ _ (h .0) (h .1) (h .2) (at-compose .compose .result) _ _ (at-compose .compose .ensures) (at-n .n .given .1) in
+    let few = bytes-few _ _ _ (h .0) (h .1) (h .2) (at-compose .compose .result) _ _ (at-compose .compose .ensures)
+    (c .before .before .n .given .1) in
     sym (length-take-le _ _ (omega (arith, at-compose .compose .kept .1 .1 .0)))
 
 returns : tie.Need-returns
 returns c =
-    let at-resolve-pack = c .before .before in
-    let at-n = at-resolve-pack .before .before .before .before in
-    let at-start = at-n .before .before .before .before in
-    let at-compose = at-start in
+    let at-compose = c .before .before .before .before .before .before .before .before .before .before in
     let start = at-compose .before .before .before .before .before .before in
     let h = start .pre in
-    at-resolve-pack .resolve-pack .ensures ∙ resolved-back _ _ _ (h .0) (h .1) (h .2) (at-compose .compose .result) _ _ _
-    (at-compose .compose .ensures) (at-n .n .given .1)
+    c .before .before .resolve-pack .ensures ∙ resolved-back _ _ _ (h .0) (h .1) (h .2) (at-compose .compose .result) _ _ _
+    (at-compose .compose .ensures) (c .before .before .before .before .before .before .n .given .1)
 
 returns-2 : tie.Need-returns-2
 returns-2 c =
@@ -47,12 +42,11 @@ returns-2 c =
 
 returns-3 : tie.Need-returns-3
 returns-3 c =
-    let at-k = c .before in
-    let at-start = at-k .before .before .before .before in
-    let at-compose = at-start in
+    let at-compose = c .before .before .before .before .before in
     let start = at-compose .before .before .before .before .before .before in
     let h = start .pre in
-    absurd (never-refused _ _ _ (h .0) (h .1) (h .2) (at-compose .compose .result) _ _ (at-compose .compose .ensures) (at-k .k .given .1))
+    absurd (never-refused _ _ _ (h .0) (h .1) (h .2) (at-compose .compose .result) _ _ (at-compose .compose .ensures)
+    (c .before .k .given .1))
 
 pub returned-spec : {M : Type 1} → statement M
 returned-spec =

@@ -14,8 +14,7 @@ use Rattle.worked.proofs.viewed.Tie as tie
 
 returns : tie.Need-returns
 returns c =
-    let at-start' = c .before .before .before .before .before in
-    let at-put-item3 = at-start' in
+    let at-put-item3 = c .before .before .before .before .before in
     let at-put-item2 = at-put-item3 .before .before .before .before .before .before in
     let at-put-item = at-put-item2 .before .before .before .before .before .before in
     let at-start = at-put-item .before .before .before .before .before .before in

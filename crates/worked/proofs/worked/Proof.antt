@@ -13,14 +13,7 @@ use Rattle.worked.proofs.worked.Tie as tie
 
 returns : tie.Need-returns
 returns c =
-    let at-put-item3 = c .before .before .before .before .before in
-    let at-put-item2 = at-put-item3 .before .before .before .before .before .before in
-    let at-put-item = at-put-item2 .before .before .before .before .before .before in
-    let at-start = at-put-item .before .before .before .before .before .before in
-    let at-pre = at-start .before .before .before in
-    let k = every-run _ _ _ _ _ _ (at-start .start .ensures) (accepted 100 _ _ _ (omega arith) (at-pre .pre) (at-start .start .ensures))
-    (more (at-put-item .put-item .ensures)
-    (more (at-put-item2 .put-item2 .ensures) (more (at-put-item3 .put-item3 .ensures) (more (c .find-item .ensures) none)))) in
+    let k = every-run _ _ _ _ _ _ (c .before .before .before .before .before .before .before .before .before .before .before .before .before .before .before .before .before .before .before .before .before .before .before .start .ensures) (accepted 100 _ _ _ (omega arith) (c .before .before .before .before .before .before .before .before .before .before .before .before .before .before .before .before .before .before .before .before .before .before .before .before .before .before .pre) (c .before .before .before .before .before .before .before .before .before .before .before .before .before .before .before .before .before .before .before .before .before .before .before .start .ensures)) (more (c .before .before .before .before .before .before .before .before .before .before .before .before .before .before .before .before .before .put-item .ensures) (more (c .before .before .before .before .before .before .before .before .before .before .before .put-item2 .ensures) (more (c .before .before .before .before .before .put-item3 .ensures) (more (c .find-item .ensures) none)))) in
     found-length (c .find-item .result) 5 (ap (λ (l : List Answer). getD l 3 done) (k .answered) ∙ worked-last _)
 
 pub worked-spec : {M : Type 1} → statement M

@@ -17,53 +17,42 @@ abbrev μ-loop : tie.MeasureT-loop
 
 add-written : tie.Need-add-written Inv-loop μ-loop
 add-written c =
-    let at-start = c .before .before .before .before .before in
-    let at-turn = at-start in
+    let at-turn = c .before .before .before .before .before in
     let at-loop = at-turn .before .before .before .before .before in
     omega (arith, going-fits _ _ _ _ _ _ _ _ (at-loop .loop .inv .0) _ _ _ _ (at-turn .take-turn .ensures))
 
 returns : tie.Need-returns Inv-loop μ-loop
 returns c =
-    let at-if1 = c .before in
-    let at-start = at-if1 .before .before .before .before .before .before .before in
-    let at-turn = at-start in
+    let at-turn = c .before .before .before .before .before .before .before .before in
     let in-loop = at-turn .before .before .before .before in
     run-as _ _ _ _ _ _ _ _ _ (c .three .ensures)
     (going-stops _ _ _ _ _ _ _ _ (in-loop .before .loop .inv .0) _ _ _ _ (at-turn .take-turn .ensures) (in-loop .loop-test .taken)
-    (at-if1 .if1 .taken))
+    (c .before .if1 .taken))
 
 add-read : tie.Need-add-read Inv-loop μ-loop
 add-read c =
-    let at-if1 = c .before in
-    let at-start = at-if1 .before .before .before .before .before .before .before in
-    let at-turn = at-start in
+    let at-turn = c .before .before .before .before .before .before .before .before in
     let in-loop = at-turn .before .before .before .before in
-    let at-args = in-loop .before .before .before .before .before in
-    omega (arith, going-on _ _ _ _ _ _ _ _ (in-loop .before .loop .inv .0) _ _ _ _ (at-turn .take-turn .ensures) (at-if1 .if1 .left) .0,
-    in-loop .loop-test .taken, at-args .good .1 .0 .1)
+    omega (arith, going-on _ _ _ _ _ _ _ _ (in-loop .before .loop .inv .0) _ _ _ _ (at-turn .take-turn .ensures) (c .before .if1 .left) .0,
+    in-loop .loop-test .taken)
 
 add-made : tie.Need-add-made Inv-loop μ-loop
 add-made c =
-    let at-start = c .before .before .before .before .before .before .before .before .before .before .before .before in
-    let in-loop = at-start in
+    let in-loop = c .before .before .before .before .before .before .before .before .before .before .before .before in
     omega (arith, in-loop .before .loop .inv .0 .few, in-loop .loop-test .taken)
 
 loop-less : tie.Need-loop-less Inv-loop μ-loop
 loop-less c =
-    let at-if1 = c .before in
-    let at-start = at-if1 .before .before .before .before .before .before .before in
-    let at-turn = at-start in
+    let at-turn = c .before .before .before .before .before .before .before .before in
     let in-loop = at-turn .before .before .before .before in
-    omega (arith, going-on _ _ _ _ _ _ _ _ (in-loop .before .loop .inv .0) _ _ _ _ (at-turn .take-turn .ensures) (at-if1 .if1 .left) .0,
-    in-loop .loop-test .taken, at-if1 .if1 .left)
+    omega (arith, going-on _ _ _ _ _ _ _ _ (in-loop .before .loop .inv .0) _ _ _ _ (at-turn .take-turn .ensures) (c .before .if1 .left) .0,
+    in-loop .loop-test .taken, c .before .if1 .left)
 
 loop-again : tie.Need-loop-again Inv-loop μ-loop
 loop-again c =
-    let at-if1 = c .before in
-    let at-start = at-if1 .before .before .before .before .before .before .before in
-    let at-turn = at-start in
+    let at-turn = c .before .before .before .before .before .before .before .before in
     let at-loop = at-turn .before .before .before .before .before in
-    (going-on _ _ _ _ _ _ _ _ (at-loop .loop .inv .0) _ _ _ _ (at-turn .take-turn .ensures) (at-if1 .if1 .left) .1,
+    (going-on _ _ _ _ _ _ _ _ (at-loop .loop .inv .0) _ _ _ _ (at-turn .take-turn .ensures) (c .before .if1 .left) .1,
     at-turn .take-turn .kept .0 ∙ at-loop .loop .inv .1)
 
 returns-2 : tie.Need-returns-2 Inv-loop μ-loop

@@ -1,26 +1,26 @@
-use Rattle.store.proofs.PackageTest.{tested-shape}
+use mathlib.Core.Path.{refl}
+use Rattle.model.specs.Calls.{Changes, PutItem}
 use Rattle.items.proofs.Naming.{prefix-slice, prefix-in}
-use Rattle.items.proofs.Changing.{named-is, named-some, named-tag, put-foreign, put-refused, put-clash, put-room, put-done}
+use Rattle.items.proofs.Changing.{named-is, named-some, named-tag, put-refused, put-clash, put-room, put-done}
+use Rattle.contract.proofs.Opening.{turned-away, let-in}
 use borrow.Author.Needs.{needs}
 use Rattle.items.proofs.calls.put_item.Statement.{statement}
 use Rattle.items.proofs.calls.put_item.Tie as tie
 
 returns : tie.Need-returns
-returns c = put-foreign _ _ _ (c .before .is-package .ensures) _ (c .if1 .taken)
+returns c = turned-away _ (Changes (PutItem _ _)) _ refl (c .before .opened .ensures) (c .if1 .taken)
 
 slice-aggregate-bound : tie.Need-slice-aggregate-bound
 slice-aggregate-bound c =
     let at-n = c .before .before .before in
     let at-strict = at-n .before .before in
-    let at-if1 = at-strict .before in
-    let is-package = at-if1 .before .is-package in
-    prefix-slice _ _ (named-is _ _ _ (is-package .ensures) (at-if1 .if1 .left) _ (at-strict .strict .ensures) _ _ (at-n .n .given .1) .0)
+    prefix-slice _ _ (named-is _ _ (at-strict .strict .ensures) _ _ (at-n .n .given .1) .0)
 
 bound-requires : tie.Need-bound-requires
 bound-requires c κs =
     let at-if1 = c .before .before .before .before .before .before .before in
-    let is-package = at-if1 .before .is-package in
-    tested-shape _ _ (is-package .ensures) (at-if1 .if1 .left) .few
+    let opened = at-if1 .before .opened in
+    let-in _ _ (opened .ensures) (at-if1 .if1 .left) .shape .few
 
 put-refusal-requires : tie.Need-put-refusal-requires
 put-refusal-requires c κs =
@@ -28,11 +28,9 @@ put-refusal-requires c κs =
     let at-n = at-bound .before .before .before .before .before in
     let at-strict = at-n .before .before in
     let at-if1 = at-strict .before in
-    let is-package = at-if1 .before .is-package in
-    (tested-shape _ _ (is-package .ensures) (at-if1 .if1 .left),
-    ((named-is _ _ _ (is-package .ensures) (at-if1 .if1 .left) _ (at-strict .strict .ensures) _ _ (at-n .n .given .1) .0, named-is _ _ _
-    (is-package .ensures) (at-if1 .if1 .left) _ (at-strict .strict .ensures) _ _ (at-n .n .given .1) .1, named-is _ _ _
-    (is-package .ensures) (at-if1 .if1 .left) _ (at-strict .strict .ensures) _ _ (at-n .n .given .1) .2), at-bound .bound .ensures))
+    let opened = at-if1 .before .opened in
+    (let-in _ _ (opened .ensures) (at-if1 .if1 .left) .shape,
+    (named-is _ _ (at-strict .strict .ensures) _ _ (at-n .n .given .1), at-bound .bound .ensures))
 
 returns-2 : tie.Need-returns-2
 returns-2 c =
@@ -41,33 +39,27 @@ returns-2 c =
     let at-n = at-bound .before .before .before .before .before in
     let at-strict = at-n .before .before in
     let at-if1 = at-strict .before in
-    let is-package = at-if1 .before .is-package in
-    put-clash _ _ _ (is-package .ensures) (at-if1 .if1 .left) _ (at-strict .strict .ensures) _ _ (at-n .n .given .1) _ _ _
+    let opened = at-if1 .before .opened in
+    put-clash _ (let-in _ _ (opened .ensures) (at-if1 .if1 .left)) _ _ (at-strict .strict .ensures) _ _ (at-n .n .given .1) _ _ _
     (at-bound .bound .ensures) (at-put-refusal .put-refusal .ensures) (c .if2 .taken)
 
 slice-aggregate-insert : tie.Need-slice-aggregate-insert
 slice-aggregate-insert c =
     let at-n = c .before .before .before .before .before .before .before .before .before .before in
     let at-strict = at-n .before .before in
-    let at-if1 = at-strict .before in
-    let is-package = at-if1 .before .is-package in
-    prefix-slice _ _ (named-is _ _ _ (is-package .ensures) (at-if1 .if1 .left) _ (at-strict .strict .ensures) _ _ (at-n .n .given .1) .0)
+    prefix-slice _ _ (named-is _ _ (at-strict .strict .ensures) _ _ (at-n .n .given .1) .0)
 
 sub-insert : tie.Need-sub-insert
 sub-insert c =
     let at-n = c .before .before .before .before .before .before .before .before .before .before in
     let at-strict = at-n .before .before in
-    let at-if1 = at-strict .before in
-    let is-package = at-if1 .before .is-package in
-    prefix-in _ _ (named-is _ _ _ (is-package .ensures) (at-if1 .if1 .left) _ (at-strict .strict .ensures) _ _ (at-n .n .given .1) .0)
+    prefix-in _ _ (named-is _ _ (at-strict .strict .ensures) _ _ (at-n .n .given .1) .0)
 
 part-insert-start : tie.Need-part-insert-start
 part-insert-start c =
     let at-n = c .before .before .before .before .before .before .before .before .before .before in
     let at-strict = at-n .before .before in
-    let at-if1 = at-strict .before in
-    let is-package = at-if1 .before .is-package in
-    prefix-in _ _ (named-is _ _ _ (is-package .ensures) (at-if1 .if1 .left) _ (at-strict .strict .ensures) _ _ (at-n .n .given .1) .0)
+    prefix-in _ _ (named-is _ _ (at-strict .strict .ensures) _ _ (at-n .n .given .1) .0)
 
 insert-requires : tie.Need-insert-requires
 insert-requires c κs =
@@ -77,21 +69,21 @@ insert-requires c κs =
     let at-n = at-bound .before .before .before .before .before in
     let at-strict = at-n .before .before in
     let at-if1 = at-strict .before in
-    let at-is-package = at-if1 .before in
-    let args = at-is-package .before .before .before .before .before .args in
-    (tested-shape _ _ (at-is-package .is-package .ensures) (at-if1 .if1 .left),
-    (put-room _ _ _ (at-is-package .is-package .ensures) (at-if1 .if1 .left) _ (at-strict .strict .ensures) _ _ (at-n .n .given .1)
+    let at-opened = at-if1 .before in
+    let args = at-opened .before .before .before .before .before .args in
+    (let-in _ _ (at-opened .opened .ensures) (at-if1 .if1 .left) .shape,
+    (put-room _ (let-in _ _ (at-opened .opened .ensures) (at-if1 .if1 .left)) _ _ (at-strict .strict .ensures) _ _ (at-n .n .given .1)
     (args .bytes .now) _ _ (at-bound .bound .ensures) (at-put-refusal .put-refusal .ensures) (at-if2 .if2 .left),
-    (named-some _ _ _ (at-is-package .is-package .ensures) (at-if1 .if1 .left) _ (at-strict .strict .ensures) _ _ (at-n .n .given .1),
-    named-tag _ _ _ (at-is-package .is-package .ensures) (at-if1 .if1 .left) _ (at-strict .strict .ensures) _ _ (at-n .n .given .1))))
+    (named-some _ _ (at-strict .strict .ensures) _ _ (at-n .n .given .1),
+    named-tag _ _ (at-strict .strict .ensures) _ _ (at-n .n .given .1))))
 
 returns-3 : tie.Need-returns-3
 returns-3 c =
     let at-k = c .before in
     let at-strict = at-k .before .before in
     let at-if1 = at-strict .before in
-    let is-package = at-if1 .before .is-package in
-    put-refused _ _ _ (is-package .ensures) (at-if1 .if1 .left) _ (at-strict .strict .ensures) _ _ (at-k .k .given .1)
+    let opened = at-if1 .before .opened in
+    put-refused _ (let-in _ _ (opened .ensures) (at-if1 .if1 .left)) _ _ (at-strict .strict .ensures) _ _ (at-k .k .given .1)
 
 returns-4 : tie.Need-returns-4
 returns-4 c =
@@ -102,8 +94,8 @@ returns-4 c =
     let at-n = at-bound .before .before .before .before .before in
     let at-strict = at-n .before .before in
     let at-if1 = at-strict .before in
-    let is-package = at-if1 .before .is-package in
-    put-done _ _ _ (is-package .ensures) (at-if1 .if1 .left) _ (at-strict .strict .ensures) _ _ (at-n .n .given .1) _ _ _
+    let opened = at-if1 .before .opened in
+    put-done _ (let-in _ _ (opened .ensures) (at-if1 .if1 .left)) _ _ (at-strict .strict .ensures) _ _ (at-n .n .given .1) _ _ _
     (at-bound .bound .ensures) (at-put-refusal .put-refusal .ensures) _ (at-insert .insert .kept .0) (at-if2 .if2 .left)
     (at-insert .insert .ensures)
 

@@ -1,5 +1,6 @@
-use Rattle.model.specs.Calls.{ReadPart}
-use Rattle.contract.proofs.Rans.{prints-foreign, closed, opened, opened-shape}
+use mathlib.Core.Path.{refl}
+use Rattle.model.specs.Calls.{Prints, ReadPart}
+use Rattle.contract.proofs.Opening.{turned-away, let-in}
 use Rattle.parts.proofs.PartCalls.{read-misnamed, read-missing, read-done}
 use borrow.Author.Needs.{needs}
 use Rattle.parts.proofs.reading.read_part.Statement.{statement}
@@ -7,26 +8,26 @@ use Rattle.parts.proofs.reading.read_part.Tie as tie
 
 returns : tie.Need-returns
 returns c =
-    let at-is-package = c .before in
-    let args = at-is-package .before .before .before .before .args in
+    let at-opened = c .before in
+    let args = at-opened .before .before .before .before .args in
     let a = args in
-    prints-foreign _ (closed _ _ (at-is-package .is-package .ensures) (c .if1 .taken)) (ReadPart (a .name .now) (a .offset)) (a .out .now)
+    turned-away _ (Prints (ReadPart (a .name .now) (a .offset)) (a .out .now)) _ refl (at-opened .opened .ensures) (c .if1 .taken)
 
 returns-2 : tie.Need-returns-2
 returns-2 c =
     let at-is-part-name = c .before in
     let at-if1 = at-is-part-name .before in
-    let at-is-package = at-if1 .before in
-    let args = at-is-package .before .before .before .before .args in
+    let at-opened = at-if1 .before in
+    let args = at-opened .before .before .before .before .args in
     let a = args in
-    read-misnamed _ (opened _ _ (at-is-package .is-package .ensures) (at-if1 .if1 .left)) (a .name .now) (a .offset) (a .out .now) _
+    read-misnamed _ (let-in _ _ (at-opened .opened .ensures) (at-if1 .if1 .left)) (a .name .now) (a .offset) (a .out .now) _
     (at-is-part-name .is-part-name .ensures) (c .if2 .taken)
 
 find-group-requires : tie.Need-find-group-requires
 find-group-requires c κs =
     let at-if1 = c .before .before in
-    let is-package = at-if1 .before .is-package in
-    opened-shape _ _ (is-package .ensures) (at-if1 .if1 .left)
+    let opened = at-if1 .before .opened in
+    let-in _ _ (opened .ensures) (at-if1 .if1 .left) .shape
 
 returns-3 : tie.Need-returns-3
 returns-3 c =
@@ -35,10 +36,10 @@ returns-3 c =
     let at-if2 = at-find-group .before in
     let at-is-part-name = at-if2 .before in
     let at-if1 = at-is-part-name .before in
-    let at-is-package = at-if1 .before in
-    let args = at-is-package .before .before .before .before .args in
+    let at-opened = at-if1 .before in
+    let args = at-opened .before .before .before .before .args in
     let a = args in
-    read-missing _ (opened _ _ (at-is-package .is-package .ensures) (at-if1 .if1 .left)) (a .name .now) (a .offset) (a .out .now) _
+    read-missing _ (let-in _ _ (at-opened .opened .ensures) (at-if1 .if1 .left)) (a .name .now) (a .offset) (a .out .now) _
     (at-is-part-name .is-part-name .ensures) (at-if2 .if2 .left) _ _ (at-find-group .find-group .ensures) _
     (at-makes-part .makes-part .ensures) (c .if3 .taken)
 
@@ -51,10 +52,10 @@ returns-4 c =
     let at-if2 = at-find-group .before in
     let at-is-part-name = at-if2 .before in
     let at-if1 = at-is-part-name .before in
-    let at-is-package = at-if1 .before in
-    let args = at-is-package .before .before .before .before .args in
+    let at-opened = at-if1 .before in
+    let args = at-opened .before .before .before .before .args in
     let a = args in
-    read-done _ (opened _ _ (at-is-package .is-package .ensures) (at-if1 .if1 .left)) (a .name .now) (a .offset) (a .out .now) _
+    read-done _ (let-in _ _ (at-opened .opened .ensures) (at-if1 .if1 .left)) (a .name .now) (a .offset) (a .out .now) _
     (at-is-part-name .is-part-name .ensures) (at-if2 .if2 .left) _ _ (at-find-group .find-group .ensures) _
     (at-makes-part .makes-part .ensures) (at-if3 .if3 .left) _ _ (at-copy-content .copy-content .ensures)
 

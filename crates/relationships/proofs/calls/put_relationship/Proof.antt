@@ -1,28 +1,31 @@
-use mathlib.Core.Path.{sym, _∙_}
+use mathlib.Core.Path.{refl, sym, _∙_}
 use native.Mathlib.Omega.{arith}
-use Rattle.model.specs.Calls.{PutRelationship}
-use Rattle.store.proofs.PackageTest.{tested-shape}
-use Rattle.contract.proofs.Rans.{changes-foreign, closed, opened}
-use Rattle.relationships.proofs.RelationshipCalls.{source-some, mode-small, put-refused, put-ran}
+use Rattle.model.specs.Calls.{Changes, PutRelationship}
+use Rattle.contract.proofs.Opening.{turned-away, let-in}
+use Rattle.contract.specs.Rows.{relationshipRow, relationshipRows}
+use Rattle.contract.proofs.RowKinds.{relationship-rows}
+use Rattle.contract.proofs.SetCalls.{put-refused, put-ran}
+use Rattle.relationships.proofs.RelationshipCalls.{source-some, mode-small, putting}
 use borrow.Author.Needs.{needs}
 use Rattle.relationships.proofs.calls.put_relationship.Statement.{statement}
 use Rattle.relationships.proofs.calls.put_relationship.Tie as tie
 
 returns : tie.Need-returns
 returns c =
-    let at-is-package = c .before in
-    let args = at-is-package .before .before .before .before .before .before .before .args in
-    changes-foreign _ (closed _ _ (at-is-package .is-package .ensures) (c .if1 .taken))
-    (PutRelationship (args .source .now) (args .id .now) (args .kind .now) (args .mode) (args .target .now))
+    let at-opened = c .before in
+    let args = at-opened .before .before .before .before .before .before .before .args in
+    turned-away _ (Changes (PutRelationship (args .source .now) (args .id .now) (args .kind .now) (args .mode) (args .target .now))) _
+    refl (at-opened .opened .ensures) (c .if1 .taken)
 
 returns-2 : tie.Need-returns-2
 returns-2 c =
     let at-fields-refusal = c .before in
     let at-if1 = at-fields-refusal .before in
-    let at-is-package = at-if1 .before in
-    let args = at-is-package .before .before .before .before .before .before .before .args in
-    put-refused _ (opened _ _ (at-is-package .is-package .ensures) (at-if1 .if1 .left)) (args .source .now) (args .id .now)
-    (args .kind .now) (args .mode) (args .target .now) _ (at-fields-refusal .fields-refusal .ensures) (c .if2 .taken)
+    let at-opened = at-if1 .before in
+    let args = at-opened .before .before .before .before .before .before .before .args in
+    put-refused relationshipRows relationship-rows _ (let-in _ _ (at-opened .opened .ensures) (at-if1 .if1 .left)) _ _ _
+    (putting (args .source .now) (args .id .now) (args .kind .now) (args .mode) (args .target .now))
+    (at-fields-refusal .fields-refusal .ensures) (c .if2 .taken)
 
 add-put-row : tie.Need-add-put-row
 add-put-row c =
@@ -38,25 +41,26 @@ put-row-requires c κs =
     let at-if2 = c .before in
     let at-fields-refusal = at-if2 .before in
     let at-if1 = at-fields-refusal .before in
-    let at-is-package = at-if1 .before in
-    let at-args = at-is-package .before .before .before .before .before .before .before in
+    let at-opened = at-if1 .before in
+    let at-args = at-opened .before .before .before .before .before .before .before in
     let l = mode-small (at-args .args .source .now) (at-args .args .id .now) (at-args .args .kind .now) (at-args .args .mode)
     (at-args .args .target .now) (sym (at-fields-refusal .fields-refusal .ensures) ∙ at-if2 .if2 .left) in
-    (tested-shape _ _ (at-is-package .is-package .ensures) (at-if1 .if1 .left),
+    (let-in _ _ (at-opened .opened .ensures) (at-if1 .if1 .left) .shape,
     (source-some (at-args .args .source .now) (at-args .args .id .now) (at-args .args .kind .now) (at-args .args .mode)
     (at-args .args .target .now) (sym (at-fields-refusal .fields-refusal .ensures) ∙ at-if2 .if2 .left), omega arith))
 
 returns-3 : tie.Need-returns-3
+unfolding relationshipRow
 returns-3 c =
     let at-put-row = c .before .before in
     let at-if2 = at-put-row .before .before in
     let at-fields-refusal = at-if2 .before in
     let at-if1 = at-fields-refusal .before in
-    let at-is-package = at-if1 .before in
-    let args = at-is-package .before .before .before .before .before .before .before .args in
-    put-ran _ (opened _ _ (at-is-package .is-package .ensures) (at-if1 .if1 .left)) (args .source .now) (args .id .now) (args .kind .now)
-    (args .mode) (args .target .now) _ (at-fields-refusal .fields-refusal .ensures) (at-if2 .if2 .left) _ _ (at-put-row .put-row .kept .0)
-    (at-put-row .put-row .ensures)
+    let at-opened = at-if1 .before in
+    let args = at-opened .before .before .before .before .before .before .before .args in
+    put-ran relationshipRows relationship-rows _ (let-in _ _ (at-opened .opened .ensures) (at-if1 .if1 .left)) _ _ _
+    (putting (args .source .now) (args .id .now) (args .kind .now) (args .mode) (args .target .now))
+    (at-fields-refusal .fields-refusal .ensures) (at-if2 .if2 .left) _ _ (at-put-row .put-row .kept .0) (at-put-row .put-row .ensures)
 
 pub put-relationship-spec : {M : Type 1} → statement M
 put-relationship-spec =

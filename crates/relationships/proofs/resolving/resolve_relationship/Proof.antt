@@ -1,6 +1,7 @@
+use mathlib.Core.Path.{refl}
 use native.Mathlib.Omega.{arith}
-use Rattle.model.specs.Calls.{ResolveRelationship}
-use Rattle.contract.proofs.Rans.{prints-foreign, closed, opened, opened-shape}
+use Rattle.model.specs.Calls.{Prints, ResolveRelationship}
+use Rattle.contract.proofs.Opening.{turned-away, let-in}
 use Rattle.relationships.proofs.TargetResolutions.{resolve-refused, package-size, resolve-missing, resolve-found}
 use borrow.Author.Needs.{needs}
 use Rattle.relationships.proofs.resolving.resolve_relationship.Statement.{statement}
@@ -8,25 +9,25 @@ use Rattle.relationships.proofs.resolving.resolve_relationship.Tie as t
 
 returns : tie.Need-returns
 returns c =
-    let at-is-package = c .before in
-    let args = at-is-package .before .before .before .before .before .before .args in
-    prints-foreign _ (closed _ _ (at-is-package .is-package .ensures) (c .if1 .taken))
-    (ResolveRelationship (args .source .now) (args .id .now) (args .base .now)) (args .out .now)
+    let at-opened = c .before in
+    let args = at-opened .before .before .before .before .before .before .args in
+    turned-away _ (Prints (ResolveRelationship (args .source .now) (args .id .now) (args .base .now)) (args .out .now)) _ refl
+    (at-opened .opened .ensures) (c .if1 .taken)
 
 returns-2 : tie.Need-returns-2
 returns-2 c =
     let at-asked-refusal = c .before in
     let at-if1 = at-asked-refusal .before in
-    let at-is-package = at-if1 .before in
-    let args = at-is-package .before .before .before .before .before .before .args in
-    resolve-refused _ (opened _ _ (at-is-package .is-package .ensures) (at-if1 .if1 .left)) (args .source .now) (args .id .now)
+    let at-opened = at-if1 .before in
+    let args = at-opened .before .before .before .before .before .before .args in
+    resolve-refused _ (let-in _ _ (at-opened .opened .ensures) (at-if1 .if1 .left)) (args .source .now) (args .id .now)
     (args .base .now) (args .out .now) _ (at-asked-refusal .asked-refusal .ensures) (c .if2 .taken)
 
 locate-requires : tie.Need-locate-requires
 locate-requires c κs =
     let at-if1 = c .before .before in
-    let is-package = at-if1 .before .is-package in
-    opened-shape _ _ (is-package .ensures) (at-if1 .if1 .left)
+    let opened = at-if1 .before .opened in
+    let-in _ _ (opened .ensures) (at-if1 .if1 .left) .shape
 
 resolve-row-requires : tie.Need-resolve-row-requires
 resolve-row-requires c κs =
@@ -35,11 +36,11 @@ resolve-row-requires c κs =
     let at-if2 = at-count .before .before in
     let at-asked-refusal = at-if2 .before in
     let at-if1 = at-asked-refusal .before in
-    let at-is-package = at-if1 .before in
-    let at-args = at-is-package .before .before .before .before .before .before in
-    (opened-shape _ _ (at-is-package .is-package .ensures) (at-if1 .if1 .left), omega
+    let at-opened = at-if1 .before in
+    let at-args = at-opened .before .before .before .before .before .before in
+    (let-in _ _ (at-opened .opened .ensures) (at-if1 .if1 .left) .shape, omega
     (arith, at-count .count .ensures .0, at-if3 .if3 .taken), package-size _
-    (opened _ _ (at-is-package .is-package .ensures) (at-if1 .if1 .left)) (at-args .args .source .now) (at-args .args .id .now)
+    (let-in _ _ (at-opened .opened .ensures) (at-if1 .if1 .left)) (at-args .args .source .now) (at-args .args .id .now)
     (at-args .args .base .now) (at-args .args .out .now) _ (at-asked-refusal .asked-refusal .ensures) (at-if2 .if2 .left))
 
 returns-3 : tie.Need-returns-3
@@ -51,9 +52,9 @@ returns-3 c =
     let at-if2 = at-locate .before in
     let at-asked-refusal = at-if2 .before in
     let at-if1 = at-asked-refusal .before in
-    let at-is-package = at-if1 .before in
-    let args = at-is-package .before .before .before .before .before .before .args in
-    resolve-found _ (opened _ _ (at-is-package .is-package .ensures) (at-if1 .if1 .left)) (args .source .now) (args .id .now)
+    let at-opened = at-if1 .before in
+    let args = at-opened .before .before .before .before .before .before .args in
+    resolve-found _ (let-in _ _ (at-opened .opened .ensures) (at-if1 .if1 .left)) (args .source .now) (args .id .now)
     (args .base .now) (args .out .now) _ (at-asked-refusal .asked-refusal .ensures) (at-if2 .if2 .left) _ _ (at-locate .locate .ensures)
     (at-count .count .ensures .0) (at-if3 .if3 .taken) _ (at-resolve-row .resolve-row .ensures)
 
@@ -64,9 +65,9 @@ returns-4 c =
     let at-if2 = at-locate .before in
     let at-asked-refusal = at-if2 .before in
     let at-if1 = at-asked-refusal .before in
-    let at-is-package = at-if1 .before in
-    let args = at-is-package .before .before .before .before .before .before .args in
-    resolve-missing _ (opened _ _ (at-is-package .is-package .ensures) (at-if1 .if1 .left)) (args .source .now) (args .id .now)
+    let at-opened = at-if1 .before in
+    let args = at-opened .before .before .before .before .before .before .args in
+    resolve-missing _ (let-in _ _ (at-opened .opened .ensures) (at-if1 .if1 .left)) (args .source .now) (args .id .now)
     (args .base .now) (args .out .now) _ (at-asked-refusal .asked-refusal .ensures) (at-if2 .if2 .left) _ _ (at-locate .locate .ensures)
     (at-count .count .ensures .0) (c .if3 .left)
 

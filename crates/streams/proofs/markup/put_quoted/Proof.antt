@@ -1,5 +1,6 @@
 use Prim.Native.Nat.{_+_, _-_, _≤_}
 use mathlib.Core.Path.{_≡_, refl}
+use mathlib.Core.List.{flatMap}
 use native.Mathlib.Omega.{arith}
 use lib.ListN.{length, take, drop, length-take, length-drop}
 use borrow.Author.Needs.{needs}
@@ -7,7 +8,6 @@ use denote.Ref.{now}
 use Rattle.chars.specs.Lists.{indexOf}
 use Rattle.output.specs.Sends.{Sent}
 use Rattle.output.proofs.Sending.{sent-none}
-use Rattle.model.specs.Sets.{joined}
 use Rattle.model.specs.Texts.{ampersand, quoted}
 use Rattle.streams.proofs.Quoting.{next-from, stretch-length, sent-stretch, sent-rest, taken-near}
 use Rattle.streams.proofs.markup.put_quoted.Statement.{statement}
@@ -20,7 +20,7 @@ abbrev μ-loop : tie.MeasureT-loop
 μ-loop out₀ from s at₀ i₀ k₀ out at i k = length s - i
 
 loop-holds : tie.Need-loop-holds Inv-loop μ-loop
-unfolding quoted joined
+unfolding quoted flatMap
 loop-holds c = (omega arith, c .find .ensures, refl, sent-none _ _)
 
 sub-put-stretch : tie.Need-sub-put-stretch Inv-loop μ-loop

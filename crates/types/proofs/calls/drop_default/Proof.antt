@@ -1,40 +1,46 @@
-use Rattle.model.specs.Calls.{DropDefault}
-use Rattle.store.proofs.PackageTest.{tested-shape}
-use Rattle.contract.proofs.Rans.{changes-foreign, closed, opened}
-use Rattle.types.proofs.TypeCalls.{defaults, drop-refused, drop-ran}
+use mathlib.Core.Path.{refl, sym, _∙_}
+use Rattle.model.specs.Calls.{Changes, DropDefault}
+use Rattle.model.proofs.Refusals.{first-one}
+use Rattle.contract.specs.Rows.{second, defaultRows}
+use Rattle.contract.proofs.Opening.{turned-away, let-in}
+use Rattle.contract.proofs.RowKinds.{default-rows}
+use Rattle.contract.proofs.SetCalls.{drop-refused, drop-ran}
+use Rattle.types.proofs.TypeCalls.{dropping-default}
 use borrow.Author.Needs.{needs}
 use Rattle.types.proofs.calls.drop_default.Statement.{statement}
 use Rattle.types.proofs.calls.drop_default.Tie as tie
 
 returns : tie.Need-returns
 returns c =
-    let at-is-package = c .before in
-    let args = at-is-package .before .before .before .before .args in
-    changes-foreign _ (closed _ _ (at-is-package .is-package .ensures) (c .if1 .taken)) (DropDefault (args .extension .now))
+    let at-opened = c .before in
+    let args = at-opened .before .before .before .before .args in
+    turned-away _ (Changes (DropDefault (args .extension .now))) _ refl (at-opened .opened .ensures) (c .if1 .taken)
 
 returns-2 : tie.Need-returns-2
 returns-2 c =
-    let at-is-extension = c .before in
-    let at-if1 = at-is-extension .before in
-    let is-package = at-if1 .before .is-package in
-    drop-refused defaults _ (opened _ _ (is-package .ensures) (at-if1 .if1 .left)) _ _ (at-is-extension .is-extension .ensures)
-    (c .if2 .taken)
+    let at-refusal = c .before in
+    let at-if1 = at-refusal .before in
+    let at-opened = at-if1 .before in
+    let args = at-opened .before .before .before .before .args in
+    drop-refused defaultRows default-rows _ (let-in _ _ (at-opened .opened .ensures) (at-if1 .if1 .left)) _ _ _ _ (dropping-default (args .extension .now))
+    (at-refusal .extension-refusal .ensures ∙ sym (first-one _)) (c .if2 .taken)
 
 drop-row-requires : tie.Need-drop-row-requires
 drop-row-requires c κs =
     let at-if1 = c .before .before .before .before in
-    let is-package = at-if1 .before .is-package in
-    tested-shape _ _ (is-package .ensures) (at-if1 .if1 .left)
+    let-in _ _ (at-if1 .before .opened .ensures) (at-if1 .if1 .left) .shape
 
 returns-3 : tie.Need-returns-3
+unfolding second
 returns-3 c =
     let at-drop-row = c .before .before in
     let at-if2 = at-drop-row .before .before .before in
-    let at-is-extension = at-if2 .before in
-    let at-if1 = at-is-extension .before in
-    let is-package = at-if1 .before .is-package in
-    drop-ran defaults _ (opened _ _ (is-package .ensures) (at-if1 .if1 .left)) _ _ (at-is-extension .is-extension .ensures)
-    (at-if2 .if2 .left) _ _ (at-drop-row .drop-row .kept .0) (at-drop-row .drop-row .ensures)
+    let at-refusal = at-if2 .before in
+    let at-if1 = at-refusal .before in
+    let at-opened = at-if1 .before in
+    let args = at-opened .before .before .before .before .args in
+    drop-ran defaultRows default-rows _ (let-in _ _ (at-opened .opened .ensures) (at-if1 .if1 .left)) _ _ _ _ (dropping-default (args .extension .now))
+    (at-refusal .extension-refusal .ensures ∙ sym (first-one _)) (at-if2 .if2 .left) _ _ (at-drop-row .drop-row .kept .0) (at-drop-row .drop-row .ensures)
 
 pub drop-default-spec : {M : Type 1} → statement M
 drop-default-spec =

@@ -1,0 +1,147 @@
+//! A random list of calls: its plan, what is held by now, the next call.
+
+use crate::support::calls::Call;
+use crate::support::Random;
+use crate::texts::SEGMENTS;
+use zombirels::package::CAPACITY_MAX;
+
+/// What the names and sizes of a list are like.
+#[derive(Clone, Copy, Debug, PartialEq, Eq)]
+pub enum Style {
+    /// Few names that collide and derive from each other.
+    Crowded,
+    /// Names without end, so that the set of items gets full.
+    Full,
+    /// Bytes that fill the capacity to the last one, or one more.
+    Tight,
+    /// A few parts in many pieces, in any order.
+    Pieces,
+    /// Tiles of some thousand bytes, put and dropped.
+    Tiles,
+    /// Few parts, types and relationships with colliding keys.
+    Fields,
+    /// Types or relationships without end, so that their sets get full.
+    FullFields,
+}
+
+/// One list: the names to choose from, the capacity, what is held by now.
+pub struct List {
+    pub style: Style,
+    pub prefixes: Vec<Vec<u8>>,
+    /// For each prefix the number of its last piece, if it comes in pieces.
+    pub last: Vec<Option<usize>>,
+    pub capacity: u64,
+    /// The greatest capacity that the buffer is long enough for.
+    pub lent: u64,
+    /// The names of accepted puts, as given.
+    pub held: Vec<Vec<u8>>,
+    /// The keys of accepted Defaults, Overrides and relationships, as given.
+    pub extensions: Vec<Vec<u8>>,
+    pub overrides: Vec<Vec<u8>>,
+    pub relationships: Vec<(Vec<u8>, Vec<u8>)>,
+    /// Whether the list fills the relationships, or else the types.
+    pub relates: bool,
+}
+
+impl List {
+    pub fn new(random: &mut Random, style: Style) -> List {
+        let count = match style {
+            Style::Crowded => 2 + random.below(10),
+            Style::Full => 300 + random.below(200),
+            Style::Tight => 2 + random.below(30),
+            Style::Pieces => 1 + random.below(4),
+            Style::Tiles => 5 + random.below(60),
+            Style::Fields => 1 + random.below(8),
+            Style::FullFields => 70 + random.below(40),
+        };
+        let mut list = List {
+            style,
+            prefixes: Vec::new(),
+            last: Vec::new(),
+            capacity: random_capacity(random, style),
+            lent: 0,
+            held: Vec::new(),
+            extensions: Vec::new(),
+            overrides: Vec::new(),
+            relationships: Vec::new(),
+            relates: random.once_in(2),
+        };
+        list.lent = match random.below(120) {
+            0 => CAPACITY_MAX + 1, // long enough for a capacity that is too large
+            1..=40 => list.capacity + random.below(3000) as u64,
+            _ => list.capacity,
+        };
+        for number in 0..count {
+            list.prefixes.push(random_prefix(random, style, number));
+            list.last.push(random_last(random, style));
+        }
+        list
+    }
+
+    pub fn call(&self, random: &mut Random, charge: u64) -> Call {
+        if random.once_in(40) {
+            return self.stream_call(random);
+        }
+        let others = match self.style {
+            Style::Full => 3,
+            Style::Pieces => 8,
+            Style::Crowded | Style::Tight | Style::Tiles => 15,
+            Style::Fields => 70,
+            Style::FullFields => 96,
+        };
+        let room = (self.capacity - charge) as usize;
+        if random.below(100) < others {
+            self.field_call(random, room)
+        } else {
+            self.item_call(random, room)
+        }
+    }
+
+    /// Empties the list's account, as a start does with the package.
+    pub fn restart(&mut self, capacity: u64) {
+        self.held.clear();
+        self.extensions.clear();
+        self.overrides.clear();
+        self.relationships.clear();
+        self.capacity = capacity;
+    }
+}
+
+fn random_capacity(random: &mut Random, style: Style) -> u64 {
+    let capacity = match style {
+        Style::Crowded => random.below(3000),
+        Style::Full => 20_000,
+        Style::Tight => random.below(400),
+        Style::Pieces => 2000 + random.below(6000),
+        Style::Tiles => 20_000 + random.below(60_000),
+        Style::Fields => random.below(8000),
+        Style::FullFields => 40_000,
+    };
+    capacity as u64
+}
+
+fn random_prefix(random: &mut Random, style: Style, number: usize) -> Vec<u8> {
+    match style {
+        Style::Full | Style::Tiles | Style::FullFields => {
+            format!("/Tiles/L{}/t{number}.tiff", number % 3).into_bytes()
+        }
+        _ if random.once_in(12) => {
+            let length = 250 + random.below(7); // up to 256, one too long
+            let mut name = b"/long".to_vec();
+            name.resize(length, b'n');
+            name
+        }
+        _ => random.name(SEGMENTS, 3),
+    }
+}
+
+/// The number of the last piece, if a prefix comes in pieces.
+fn random_last(random: &mut Random, style: Style) -> Option<usize> {
+    match style {
+        Style::Crowded | Style::Tight => random.once_in(2).then(|| random.below(4)),
+        Style::Full => random.once_in(8).then(|| random.below(3)),
+        Style::Pieces => (!random.once_in(8)).then(|| random.below(90)),
+        Style::Tiles => random.once_in(3).then(|| random.below(6)),
+        Style::Fields | Style::FullFields => random.once_in(4).then(|| random.below(3)),
+    }
+}

@@ -1,0 +1,73 @@
+//! One package on both sides: each call is made twice and compared.
+
+use crate::support::calls::{Answer, Call};
+use crate::support::outputs::Outputs;
+use crate::support::Random;
+use reference::ledger::Ledger;
+use std::collections::{BTreeMap, BTreeSet};
+use zombirels::package::Package;
+use zombirels::script::Code;
+
+/// What came so far.
+#[derive(Default)]
+pub struct Seen {
+    /// How often each call met each number; 0 if it was accepted.
+    pub numbers: BTreeMap<(Code, u64), usize>,
+    /// The modes of resolved targets, and whether their parts were held.
+    pub resolved: BTreeSet<(usize, usize)>,
+}
+
+impl Seen {
+    fn add(&mut self, code: Code, answer: Answer) {
+        let number = answer.err().map_or(0, |(number, _)| number);
+        *self.numbers.entry((code, number)).or_insert(0) += 1;
+        if let (Code::ResolveRelationship, Ok([_, mode, held])) = (code, answer) {
+            self.resolved.insert((mode, held));
+        }
+    }
+}
+
+/// Both sides and what was seen so far.
+pub struct Pair<'a> {
+    pub package: Package<'a>,
+    pub ledger: Ledger,
+    pub seen: &'a mut Seen,
+    /// All calls of the list up to now, for the message.
+    pub made: Vec<Call>,
+}
+
+impl Pair<'_> {
+    /// Makes a call on both sides and compares.
+    pub fn compare(&mut self, random: &mut Random, call: &Call) -> Answer {
+        let length = self.package.as_bytes().len() as u64;
+        let mut outputs = Outputs::new(random, call.lent);
+        let kept = (call.changes() && random.once_in(4)).then(|| self.package.as_bytes().to_vec());
+        let answer = call.by_archive(&mut self.package, outputs.archive());
+        let right = call.by_reference(&mut self.ledger, length, outputs.reference());
+        let told = || {
+            let calls: Vec<String> = self.made.iter().chain([call]).map(Call::show).collect();
+            format!("buffer {length}\n{}", calls.join("\n"))
+        };
+        assert!(answer == right, "{}: {answer:?} for {right:?}", told());
+        outputs.check(answer.map_or(0, |[written, ..]| written), told);
+        if call.code == Code::ViewItem {
+            let name = &call.texts[0];
+            let alike = self.package.view_item(name) == self.ledger.view_item(name);
+            assert!(alike, "{}: the views differ", told());
+        }
+        match kept {
+            Some(kept) if answer.is_err() => {
+                assert!(self.package.as_bytes() == kept, "{} changed", call.show());
+            }
+            _ => {}
+        }
+        self.seen.add(call.code, answer);
+        self.made.push(call.clone());
+        answer
+    }
+
+    /// Makes a call that asks for one thing by its texts, lent so many bytes.
+    pub fn ask(&mut self, random: &mut Random, code: Code, texts: &[&[u8]], lent: usize) -> Answer {
+        self.compare(random, &Call::new(code, texts).with_output(lent))
+    }
+}
