@@ -65,7 +65,7 @@ pub fn copy_in(pkg: &mut [u8], at: usize, src: &[u8])
 }
 
 // Moves the `count` bytes from `from` on down to `to`.
-pub(crate) fn move_down(pkg: &mut [u8], from: usize, to: usize, count: usize)
+pub fn move_down(pkg: &mut [u8], from: usize, to: usize, count: usize)
     requires { ⌜ (to ≤ from) × (from + count ≤ length (now pkg)) ⌝ }
     ensures { λ _. ⌜ now (pkg .exit) ≡ splice (now (pkg .entry)) to (part from count (now (pkg .entry))) ⌝ }
 {
@@ -81,7 +81,7 @@ pub(crate) fn move_down(pkg: &mut [u8], from: usize, to: usize, count: usize)
 }
 
 // Moves the `count` bytes from `from` on up to `to`.
-pub(crate) fn move_up(pkg: &mut [u8], from: usize, to: usize, count: usize)
+pub fn move_up(pkg: &mut [u8], from: usize, to: usize, count: usize)
     requires { ⌜ (from ≤ to) × (to + count ≤ length (now pkg)) ⌝ }
     ensures { λ _. ⌜ now (pkg .exit) ≡ splice (now (pkg .entry)) to (part from count (now (pkg .entry))) ⌝ }
 {

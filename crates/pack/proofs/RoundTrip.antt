@@ -13,7 +13,7 @@ use Rattle.chars.specs.Bytes.{slash, ascii, member, numberSign}
 use Rattle.chars.specs.Folding.{equivalent, lower}
 use Rattle.chars.specs.Lists.{same, firstOf, lacks, isEmpty}
 use Rattle.chars.specs.declared.search.Alphabet.the-variants.{PathEnd, AuthorityEnd}
-use Rattle.base.proofs.Bools.{and-right, and-left}
+use Rattle.base.proofs.Bools.{and-right, and-left, or-true}
 use Rattle.chars.proofs.Equivalence.{same-eq}
 use Rattle.names.specs.Iris.{colonFirst, packageIri, iri}
 use Rattle.names.specs.Names.{partName}
