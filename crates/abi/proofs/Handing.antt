@@ -35,7 +35,9 @@ replied {call} {p} {a} {q} x h = record { answered = a; ran = x; handed = h (is-
 written-answers : (o : Outcome) (out : List ℕ) → written o out ≡ unanswered → ⊥
 unfolding filled
 written-answers (Refused k) out e = omega (arith, ap (λ (a : Answer). length (a .values)) e)
-written-answers (Text t values) out e = ⊎-elim (λ z. omega (arith, ap (λ (a : Answer). a .number) e)) (λ z. omega (arith, ap (λ (a : Answer). a .number) e)) (filled-number 1 out t values)
+written-answers (Text t values) out e =
+    let n = ap (λ (a : Answer). a .number) e in
+    ⊎-elim (λ z. omega arith) (λ z. omega arith) (filled-number 1 out t values)
 
 pub written-handed : (o : Outcome) (out : List ℕ) (a : Answer) (r : Reply) (out' : List ℕ) → a ≡ written o out
     → ((a ≡ unanswered → ⊥) → HandsOver a 1 r out') → HandsOver (written o out) 1 r out'

@@ -11,27 +11,27 @@ use Rattle.chars.specs.Characters.{single}
 use Rattle.chars.specs.Classes.{classes, Classed}
 use Rattle.chars.specs.declared.search.Alphabet.the-variants.{Token, Scheme, Id, SchemeEnd, AuthorityEnd, PathEnd}
 use Rattle.chars.specs.declared.units.Grammar.the-variants.{Iri}
-use Rattle.chars.proofs.Tables.{both, same, is-same, both-left, both-right, at}
+use Rattle.chars.proofs.Tables.{both, alike, is-alike, both-left, both-right, at}
 
 -- the rules of `Classed`, as one test
 agree : ℕ → ℕ → Bool
 agree b k =
-    both (same (eqb k 0) (digit b))
-    (both (same (leb k 1) (hexDigit b))
-    (both (same (within 1 2 k) (letter b))
-    (both (same (leb k 5) (unreserved b))
-    (both (same (leb k 9) (segmentByte b))
-    (both (same (leb k 12) (single Iri b))
-    (both (same (leb k 7 || within 12 14 k) (member Token b))
-    (both (same (leb k 3 || eqb k 6) (member Scheme b))
-    (both (same (leb k 4) (member Id b))
-    (both (same (within 9 12 k) (member SchemeEnd b))
-    (both (same (within 10 12 k) (member AuthorityEnd b))
-    (both (same (within 11 12 k) (member PathEnd b))
-    (both (same (eqb k 16) (continuation b))
-    (both (same (eqb k 17) (lead2 b))
-    (both (same (eqb k 18) (lead3 b))
-    (same (eqb k 19) (lead4 b))))))))))))))))
+    both (alike (eqb k 0) (digit b))
+    (both (alike (leb k 1) (hexDigit b))
+    (both (alike (within 1 2 k) (letter b))
+    (both (alike (leb k 5) (unreserved b))
+    (both (alike (leb k 9) (segmentByte b))
+    (both (alike (leb k 12) (single Iri b))
+    (both (alike (leb k 7 || within 12 14 k) (member Token b))
+    (both (alike (leb k 3 || eqb k 6) (member Scheme b))
+    (both (alike (leb k 4) (member Id b))
+    (both (alike (within 9 12 k) (member SchemeEnd b))
+    (both (alike (within 10 12 k) (member AuthorityEnd b))
+    (both (alike (within 11 12 k) (member PathEnd b))
+    (both (alike (eqb k 16) (continuation b))
+    (both (alike (eqb k 17) (lead2 b))
+    (both (alike (eqb k 18) (lead3 b))
+    (alike (eqb k 19) (lead4 b))))))))))))))))
 
 rules : (b k : ℕ) → T (agree b k) → Classed b k
 unfolding agree
@@ -51,38 +51,38 @@ rules b k t0 =
     let t13 = both-right _ _ t12 in
     let t14 = both-right _ _ t13 in
     record {
-      isDigit = is-same _ _ (both-left _ _ t0);
-      isHexDigit = is-same _ _ (both-left _ _ t1);
-      isLetter = is-same _ _ (both-left _ _ t2);
-      isUnreserved = is-same _ _ (both-left _ _ t3);
-      isSegmentByte = is-same _ _ (both-left _ _ t4);
-      isIriByte = is-same _ _ (both-left _ _ t5);
-      isToken = is-same _ _ (both-left _ _ t6);
-      isScheme = is-same _ _ (both-left _ _ t7);
-      isId = is-same _ _ (both-left _ _ t8);
-      isSchemeEnd = is-same _ _ (both-left _ _ t9);
-      isAuthorityEnd = is-same _ _ (both-left _ _ t10);
-      isPathEnd = is-same _ _ (both-left _ _ t11);
-      isContinuation = is-same _ _ (both-left _ _ t12);
-      isLead2 = is-same _ _ (both-left _ _ t13);
-      isLead3 = is-same _ _ (both-left _ _ t14);
-      isLead4 = is-same _ _ (both-right _ _ t14);
+      isDigit = is-alike _ _ (both-left _ _ t0);
+      isHexDigit = is-alike _ _ (both-left _ _ t1);
+      isLetter = is-alike _ _ (both-left _ _ t2);
+      isUnreserved = is-alike _ _ (both-left _ _ t3);
+      isSegmentByte = is-alike _ _ (both-left _ _ t4);
+      isIriByte = is-alike _ _ (both-left _ _ t5);
+      isToken = is-alike _ _ (both-left _ _ t6);
+      isScheme = is-alike _ _ (both-left _ _ t7);
+      isId = is-alike _ _ (both-left _ _ t8);
+      isSchemeEnd = is-alike _ _ (both-left _ _ t9);
+      isAuthorityEnd = is-alike _ _ (both-left _ _ t10);
+      isPathEnd = is-alike _ _ (both-left _ _ t11);
+      isContinuation = is-alike _ _ (both-left _ _ t12);
+      isLead2 = is-alike _ _ (both-left _ _ t13);
+      isLead3 = is-alike _ _ (both-left _ _ t14);
+      isLead4 = is-alike _ _ (both-right _ _ t14);
     }
 
 pub classed : (b : ℕ) → b < 256 → Classed b (getD classes b 0)
-unfolding agree both same classes member segmentByte unreserved hexDigit digit letter continuation
+unfolding agree both alike classes member segmentByte unreserved hexDigit digit letter continuation
 classed b h = rules b (getD classes b 0) (at agree classes tt b h)
 
 small : ℕ → ℕ → Bool
-small b k = same (hexDigit b) (both (hexDigit b) (leb (hexValue b) 15))
+small b k = alike (hexDigit b) (both (hexDigit b) (leb (hexValue b) 15))
 
-second : (a b : Bool) → T (same a (both a b)) → a ≡ true → b ≡ true
-unfolding same both
+second : (a b : Bool) → T (alike a (both a b)) → a ≡ true → b ≡ true
+unfolding alike both
 second true true t e = refl
 second true false t e = absurd t
 second false b t e = absurd (false≢true e)
 
 -- a hexadecimal digit is worth 15 at most
 pub hex-small : (b : ℕ) → b < 256 → hexDigit b ≡ true → hexValue b ≤ 15
-unfolding small both same classes hexDigit digit
+unfolding small both alike classes hexDigit digit
 hex-small b h e = leb-true _ _ (second (hexDigit b) (leb (hexValue b) 15) (at small classes tt b h) e)

@@ -26,7 +26,8 @@ refusing-answered (suc k) a z = refl
 pub unless-refused : (k : ℕ) (o : Outcome) → (k ≡ 0 → ⊥) → unless k o ≡ Refused k
 unless-refused k o z = rw (ne-eqb k 0 z)
 
-pub answer-refused : (o : Outcome) (k : ℕ) (out : List ℕ) → (k ≡ 0 → ⊥) → o ≡ Refused k → ofWritten (told.Refused k) out ≡ written o out
+pub answer-refused : (o : Outcome) (k : ℕ) (out : List ℕ) → (k ≡ 0 → ⊥) → o ≡ Refused k
+    → ofWritten (told.Refused k) out ≡ written o out
 unfolding filled
 answer-refused o k out z e = refusing-is k z (answer k (0 ∷ []) out) ∙ rw e
 
@@ -45,7 +46,8 @@ module _ (count : ℕ) (o : Outcome) (t vs out out' : List ℕ) (n : ℕ) (e : o
       rw (e, g, f, k)
 
 -- the same, of a text that was written where it fits
-module _ (count : ℕ) (o : Outcome) (t vs out out' : List ℕ) (n : ℕ) (e : o ≡ Text t vs) (f : Fitted out t n out') (l : length out' ≡ length out) where
+module _ (count : ℕ) (o : Outcome) (t vs out out' : List ℕ) (n : ℕ) (e : o ≡ Text t vs) (f : Fitted out t n out')
+    (l : length out' ≡ length out) where
   pub fitted-short : length out' < n → answer 3 (n ∷ replicate (count - 1) 0) out' ≡ filled count out o
   fitted-short s = answer-short count o t vs out out' n e (f .is) (omega arith) (f .short (omega arith))
 
@@ -60,11 +62,13 @@ module _ (o : Outcome) (t w ys out : List ℕ) (n : ℕ) (e : o ≡ Text t []) (
   pub dry-short : length (ys ++ out) < n → ofWritten (told.Short n) (ys ++ out) ≡ written o out
   dry-short l = fitted-short 1 o t [] out (ys ++ out) n e (fitted-none t w ys out n s z l) (rw kept) l
 
-  pub dry-bytes : (m : ℕ) (out' : List ℕ) → n ≤ length (ys ++ out) → Sent (ys ++ out) 0 t m out' → ofWritten (told.Bytes m) out' ≡ written o out
+  pub dry-bytes : (m : ℕ) (out' : List ℕ) → n ≤ length (ys ++ out) → Sent (ys ++ out) 0 t m out'
+      → ofWritten (told.Bytes m) out' ≡ written o out
   dry-bytes m out' l r =
       let d = fitted-sent t w ys out n s z m out' l r in
       let l′ : n ≤ length out = rw kept at l in
-      answer-bytes 1 o t [] out out' m e (d .is) (omega (arith, d .is, s .next-is)) (d .fits (omega (arith, d .is, s .next-is)) ∙ rw (d .is))
+      answer-bytes 1 o t [] out out' m e (d .is) (omega (arith, d .is, s .next-is))
+      (d .fits (omega (arith, d .is, s .next-is)) ∙ rw (d .is))
 
 -- the answer of a call that wrote a text
 module _ (count : ℕ) (out t vs : List ℕ) where
@@ -92,11 +96,13 @@ module _ (count : ℕ) (out t vs : List ℕ) where
       go true = inl refl
       go false = inr refl
 
-  pub filled-written : filled count out (Text t vs) .number ≡ 0 → filled count out (Text t vs) ≡ answer 0 (length t ∷ vs) (t ++ drop (length t) out)
+  pub filled-written : filled count out (Text t vs) .number ≡ 0
+      → filled count out (Text t vs) ≡ answer 0 (length t ∷ vs) (t ++ drop (length t) out)
   filled-written e = filled-fits (leb-true (length t) (length out) (sym filled-accepted ∙ ap (λ (n : ℕ). eqb n 0) e))
 
 -- a call that answers another number than 0 keeps its output
-pub filled-kept : (count : ℕ) (out : List ℕ) (o : Outcome) → (filled count out o .number ≡ 0 → ⊥) → filled count out o .output ≡ out
+pub filled-kept : (count : ℕ) (out : List ℕ) (o : Outcome) → (filled count out o .number ≡ 0 → ⊥)
+    → filled count out o .output ≡ out
 unfolding filled
 filled-kept count out (Refused k) h = refl
 filled-kept count out (Text t vs) h = go (leb (length t) (length out)) h
@@ -105,5 +111,7 @@ filled-kept count out (Text t vs) h = go (leb (length t) (length out)) h
     go true h = absurd (h refl)
     go false h = refl
 
-pub answer-kept : (count : ℕ) (out : List ℕ) (o : Outcome) (a : Answer) → a ≡ filled count out o → (a .number ≡ 0 → ⊥) → a .output ≡ out
-answer-kept count out o a e h = ap (λ (x : Answer). x .output) e ∙ filled-kept count out o (λ z. h (ap (λ (x : Answer). x .number) e ∙ z))
+pub answer-kept : (count : ℕ) (out : List ℕ) (o : Outcome) (a : Answer) → a ≡ filled count out o → (a .number ≡ 0 → ⊥)
+    → a .output ≡ out
+answer-kept count out o a e h =
+    ap (λ (x : Answer). x .output) e ∙ filled-kept count out o (λ z. h (ap (λ (x : Answer). x .number) e ∙ z))

@@ -18,7 +18,8 @@ pub sent-none : (o : List ℕ) (at : ℕ) → Sent o at [] at o
 sent-none o at = record { next-is = omega arith; fits = λ f. splice-nil o at }
 
 -- one text after another
-pub sent-more : (o o₁ o₂ b c : List ℕ) (at m n : ℕ) → Sent o at b m o₁ → length o₁ ≡ length o → Sent o₁ m c n o₂ → Sent o at (b ++ c) n o₂
+pub sent-more : (o o₁ o₂ b c : List ℕ) (at m n : ℕ) → Sent o at b m o₁ → length o₁ ≡ length o → Sent o₁ m c n o₂
+    → Sent o at (b ++ c) n o₂
 sent-more o o₁ o₂ b c at m n r l s = record {
   next-is = s .next-is ∙ ap (λ (k : ℕ). k + length c) (r .next-is) ∙ simp length-append (omega arith);
   fits = λ f.
@@ -42,7 +43,8 @@ sent-rest out text ys at k n ek s = record {
   fits = λ f.
       let e : k ≡ at = omega arith in
       let r : take (length out - k) (drop k out) ≡ drop at out = take-rest out k ∙ ap (λ (i : ℕ). drop i out) e in
-      let d : drop (length out - k) (drop k out) ≡ [] = drop-of-length-le (drop k out) {i = length out - k} (omega (arith, length-drop k out)) in
+      let d : drop (length out - k) (drop k out) ≡ [] =
+      drop-of-length-le (drop k out) {i = length out - k} (omega (arith, length-drop k out)) in
       let y : ys ≡ text ++ drop (at + length text) out =
       s .fits (rw (r, length-drop) (omega arith)) ∙ rw (r, zero-add (length text), drop-drop (length text) at out) in
       rw (d, append-nil ys, y, e) (sym (append-assoc (take at out) text (drop (at + length text) out)));
@@ -53,7 +55,8 @@ pub sent-front : (o o₁ t : List ℕ) (at n : ℕ) → Sent o at t n o₁ → n
 unfolding splice
 sent-front o o₁ t at n s l =
     let e : at + length t ≤ length o = omega (arith, s .next-is) in
-    let h : length (take at o ++ t) ≡ n = length-append (take at o) t ∙ ap (λ (k : ℕ). k + length t) (length-take-le at o (omega arith)) ∙ sym (s .next-is) in
+    let h : length (take at o ++ t) ≡ n =
+    length-append (take at o) t ∙ ap (λ (k : ℕ). k + length t) (length-take-le at o (omega arith)) ∙ sym (s .next-is) in
     ap (take n) (s .fits e) ∙ take-at (take at o ++ t) (drop (at + length t) o) n h
 
 -- what was sent to the start of an output stands there

@@ -12,7 +12,7 @@ use Rattle.names.specs.Iris.{scheme, colonFirst, iri, packageIri}
 use Rattle.iri.specs.Components.{schemeLength, authorityLength, afterScheme, afterAuthority, afterPath, schemeOf, authorityOf, pathOf, queryOf, fragmentOf, recompose}
 use Rattle.iri.specs.References.{firstSegment, rule, turn, turns, removeDotSegments, merge, relativePath, transform, resolve}
 use Rattle.iri.specs.Examples.{Row, row, Holds}
-use Rattle.targets.specs.Examples.{shown}
+use Rattle.targets.specs.Examples.{told}
 use Rattle.pack.specs.Pack.{unfragmented, escape, escaped, packIri, partOrRoot, compose, slashed, lowTriplet, decoded, packageOf, unfragmentedIri, packForm, Location, Found, Not, resolvePack}
 
 abbrev pub both : Location → List ℕ
@@ -21,13 +21,13 @@ both (Not k) = k ∷ []
 
 unfoldable pub others : List Row
 others =
-    row (shown (compose (ascii "http://www.example.com/ex.opc") (ascii "/foo/b.xml"))) (ascii "pack://http%3A,,www.example.com,ex.opc/foo/b.xml")
-    ∷ row (shown (compose (ascii "http://a/b?c=d,e@f#g") (ascii "/"))) (ascii "pack://http%3A,,a,b%3Fc=d%2Ce%40f/")
-    ∷ row (shown (compose (ascii "urn:a%41b") (ascii "/x"))) (ascii "pack://urn%3Aa%2541b/x")
-    ∷ row (shown (compose (ascii "http:") (ascii "/a"))) (ascii "pack://http%3A/a")
-    ∷ row (shown (compose (ascii "nope") (ascii "/a"))) (9 ∷ [])
-    ∷ row (shown (compose (ascii "http://a") (ascii "a"))) (4 ∷ [])
-    ∷ row (shown (compose (ascii "/x") (ascii "a"))) (9 ∷ [])
+    row (told (compose (ascii "http://www.example.com/ex.opc") (ascii "/foo/b.xml"))) (ascii "pack://http%3A,,www.example.com,ex.opc/foo/b.xml")
+    ∷ row (told (compose (ascii "http://a/b?c=d,e@f#g") (ascii "/"))) (ascii "pack://http%3A,,a,b%3Fc=d%2Ce%40f/")
+    ∷ row (told (compose (ascii "urn:a%41b") (ascii "/x"))) (ascii "pack://urn%3Aa%2541b/x")
+    ∷ row (told (compose (ascii "http:") (ascii "/a"))) (ascii "pack://http%3A/a")
+    ∷ row (told (compose (ascii "nope") (ascii "/a"))) (9 ∷ [])
+    ∷ row (told (compose (ascii "http://a") (ascii "a"))) (4 ∷ [])
+    ∷ row (told (compose (ascii "/x") (ascii "a"))) (9 ∷ [])
     ∷ row (both (resolvePack (ascii "pack://http%3A,,www.example.com,ex.opc/foo/b.xml"))) (ascii "http://www.example.com/ex.opc/foo/b.xml")
     ∷ row (both (resolvePack (ascii "PACK://a%3Ab"))) (ascii "a:b")
     ∷ row (both (resolvePack (ascii "pack://a%3Ab/"))) (ascii "a:b")

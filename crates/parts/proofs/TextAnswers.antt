@@ -21,13 +21,15 @@ use Rattle.contract.proofs.Rans.{wrote}
 pub text-numbered : (count : ℕ) (out t vs : List ℕ) (a : Answer) → a ≡ filled count out (Text t vs) → Numbered (a .number)
 text-numbered count out t vs a e =
     subst (λ (x : Answer). Numbered (x .number)) (sym e)
-    (⊎-elim (λ z. subst Numbered (sym z) zero-numbered) (λ z. subst Numbered (sym z) (numbered 3 (omega arith) (omega arith))) (filled-number count out t vs))
+    (⊎-elim (λ z. subst Numbered (sym z) zero-numbered) (λ z. subst Numbered (sym z) (numbered 3 (omega arith) (omega arith)))
+    (filled-number count out t vs))
 
 module _ (b : List ℕ) (t : Open b) (w : Print) (v : valueCount w ≡ 1) (out : List ℕ) where
   pub text-refused : (n : ℕ) → Numbered n → ((S : State) → Holds b S → printed S (length out) w ≡ Refused n) → Ran (Prints w out) b (answer n (0 ∷ []) out) b
   unfolding filled
   text-refused n u e = wrote b t w out (answer n (0 ∷ []) out) u (λ _. refl) (λ S h. rw (e S h, v))
 
-  pub text-answered : (s : List ℕ) (a : Answer) → a ≡ written (Text s []) out → ((S : State) → Holds b S → printed S (length out) w ≡ Text s []) → Ran (Prints w out) b a b
-  text-answered s a ea e = 
+  pub text-answered : (s : List ℕ) (a : Answer) → a ≡ written (Text s []) out
+      → ((S : State) → Holds b S → printed S (length out) w ≡ Text s []) → Ran (Prints w out) b a b
+  text-answered s a ea e =
       wrote b t w out a (text-numbered 1 out s [] a ea) (answer-kept 1 out (Text s []) a ea) (λ S h. ea ∙ rw (e S h, v))

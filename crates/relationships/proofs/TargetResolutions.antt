@@ -87,10 +87,10 @@ module _ (target base : Bytes) (lt : length target ≤ 255) (lb : length base �
     f′ = subst (λ (b : Bytes). Fitted out (resolve b target) n out') bare-is f
 
     pub external-short : length out' < n → ofResolution (resolution.Short n) out' ≡ filled 3 out (Text (resolve (unfragmented base) target) (1 ∷ 0 ∷ []))
-    external-short s = fitted-short 3 (Text (resolve (unfragmented base) target) (1 ∷ 0 ∷ [])) (resolve (unfragmented base) target) (1 ∷ 0 ∷ []) out out' n refl f′ l s
+    external-short s = let t = (resolve (unfragmented base) target) in fitted-short 3 (Text t (1 ∷ 0 ∷ [])) t (1 ∷ 0 ∷ []) out out' n refl f′ l s
 
     pub external-whole : n ≤ length out' → ofResolution (resolution.External n) out' ≡ filled 3 out (Text (resolve (unfragmented base) target) (1 ∷ 0 ∷ []))
-    external-whole s = fitted-bytes 3 (Text (resolve (unfragmented base) target) (1 ∷ 0 ∷ [])) (resolve (unfragmented base) target) (1 ∷ 0 ∷ []) out out' n refl f′ l s
+    external-whole s = let t = (resolve (unfragmented base) target) in fitted-bytes 3 (Text t (1 ∷ 0 ∷ [])) t (1 ∷ 0 ∷ []) out out' n refl f′ l s
 
 -- AN INTERNAL TARGET; the first k bytes of the scratch are its path
 module _ (source target : Bytes) (ls : length source ≤ 255) (lt : length target ≤ 255) (k : ℕ) (path : List ℕ) (r : Reached true source target k path) where
@@ -115,7 +115,11 @@ module _ (source target : Bytes) (ls : length source ≤ 255) (lt : length targe
     g = subst (λ (p : Bytes). Fitted out (packIri base p) n out') path-is f
 
     pub internal-short : length out' < n → LedTo b source target base out (ofResolution (resolution.Short n) out')
-    internal-short s = record { kept = λ _. g .short (omega arith); numbered = numbered 3 (omega arith) (omega arith); is = λ S h. fitted-short 3 (Text T (values S)) T (values S) out out' n refl g l s }
+    internal-short s = record {
+      kept = λ _. g .short (omega arith);
+      numbered = numbered 3 (omega arith) (omega arith);
+      is = λ S h. fitted-short 3 (Text T (values S)) T (values S) out out' n refl g l s;
+    }
 
     pub internal-whole : n ≤ length out' → (y : Bool) → PartOf b (take k path) y → LedTo b source target base out (ofResolution (resolution.Internal n y) out')
     internal-whole s y w = record {

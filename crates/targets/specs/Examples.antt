@@ -16,10 +16,10 @@ use Rattle.iri.specs.Examples.{Row, row, Holds}
 use Rattle.targets.specs.Targets.{sourceRefusal, internal, resolvePath, internalRefusal, resolveTarget}
 use Rattle.targets.specs.Relationships.{relationshipsOf, relationshipsPart, sourceOf, sourcePart}
 
--- a refusal is shown as the list of its number alone
-abbrev pub shown : Outcome → List ℕ
-shown (Text t values) = t
-shown (Refused k) = k ∷ []
+-- a refusal is told as the list of its number alone
+abbrev pub told : Outcome → List ℕ
+told (Text t values) = t
+told (Refused k) = k ∷ []
 
 unfoldable pub others : List Row
 others =
@@ -28,22 +28,22 @@ others =
     ∷ row (resolvePath (ascii "/a") (ascii ".")) (ascii "/")
     ∷ row (resolvePath (ascii "/a/b/") (ascii "c")) (ascii "/a/b/c")
     ∷ row (resolvePath (ascii "/a/b") (ascii "./c/../d")) (ascii "/a/d")
-    ∷ row (shown (relationshipsPart (ascii "/"))) (ascii "/_rels/.rels")
-    ∷ row (shown (relationshipsPart (ascii "/foo/bar.xml"))) (ascii "/foo/_rels/bar.xml.rels")
-    ∷ row (shown (relationshipsPart (ascii "/a"))) (ascii "/_rels/a.rels")
-    ∷ row (shown (relationshipsPart (ascii "/a/b/c"))) (ascii "/a/b/_rels/c.rels")
-    ∷ row (shown (relationshipsPart (ascii "/_rels/.rels"))) (5 ∷ [])
-    ∷ row (shown (relationshipsPart (ascii "a"))) (4 ∷ [])
-    ∷ row (shown (sourcePart (ascii "/_rels/.rels"))) (ascii "/")
-    ∷ row (shown (sourcePart (ascii "/foo/_RELS/bar.xml.Rels"))) (ascii "/foo/bar.xml")
-    ∷ row (shown (sourcePart (ascii "/_rels/_rels/x.rels.rels"))) (4 ∷ [])
-    ∷ row (shown (sourcePart (ascii "/_rels/.rels.rels"))) (ascii "/.rels")
-    ∷ row (shown (sourcePart (ascii "/a/_rels/.rels"))) (4 ∷ [])
-    ∷ row (shown (sourcePart (ascii "a/_rels/b.rels"))) (4 ∷ [])
-    ∷ row (shown (sourcePart (ascii "_rels/b.rels"))) (4 ∷ [])
-    ∷ row (shown (sourcePart (ascii "/_rels/b.rel"))) (4 ∷ [])
-    ∷ row (shown (sourcePart (ascii "/b.rels"))) (4 ∷ [])
-    ∷ row (shown (sourcePart (ascii ""))) (4 ∷ [])
+    ∷ row (told (relationshipsPart (ascii "/"))) (ascii "/_rels/.rels")
+    ∷ row (told (relationshipsPart (ascii "/foo/bar.xml"))) (ascii "/foo/_rels/bar.xml.rels")
+    ∷ row (told (relationshipsPart (ascii "/a"))) (ascii "/_rels/a.rels")
+    ∷ row (told (relationshipsPart (ascii "/a/b/c"))) (ascii "/a/b/_rels/c.rels")
+    ∷ row (told (relationshipsPart (ascii "/_rels/.rels"))) (5 ∷ [])
+    ∷ row (told (relationshipsPart (ascii "a"))) (4 ∷ [])
+    ∷ row (told (sourcePart (ascii "/_rels/.rels"))) (ascii "/")
+    ∷ row (told (sourcePart (ascii "/foo/_RELS/bar.xml.Rels"))) (ascii "/foo/bar.xml")
+    ∷ row (told (sourcePart (ascii "/_rels/_rels/x.rels.rels"))) (4 ∷ [])
+    ∷ row (told (sourcePart (ascii "/_rels/.rels.rels"))) (ascii "/.rels")
+    ∷ row (told (sourcePart (ascii "/a/_rels/.rels"))) (4 ∷ [])
+    ∷ row (told (sourcePart (ascii "a/_rels/b.rels"))) (4 ∷ [])
+    ∷ row (told (sourcePart (ascii "_rels/b.rels"))) (4 ∷ [])
+    ∷ row (told (sourcePart (ascii "/_rels/b.rel"))) (4 ∷ [])
+    ∷ row (told (sourcePart (ascii "/b.rels"))) (4 ∷ [])
+    ∷ row (told (sourcePart (ascii ""))) (4 ∷ [])
     ∷ []
 
 -- all that the table computes with

@@ -25,7 +25,8 @@ unfolding packIri
 some base name = omega arith
 
 -- the answer of a call that wrote a text
-only-bytes : (w : Written) (t out out' : List ℕ) → 0 < length t → ofWritten w out' ≡ answer 0 (length t ∷ []) (t ++ drop (length t) out) → w ≡ Bytes (length t)
+only-bytes : (w : Written) (t out out' : List ℕ) → 0 < length t
+    → ofWritten w out' ≡ answer 0 (length t ∷ []) (t ++ drop (length t) out) → w ≡ Bytes (length t)
 only-bytes (Bytes n) t out out' h e = ap Bytes (ap (λ (a : Answer). getD (a .values) 0 0) e)
 only-bytes (Short n) t out out' h e = absurd (omega (arith, ap (λ (a : Answer). a .number) e))
 only-bytes (Refused zero) t out out' h e = absurd (omega (arith, ap (λ (a : Answer). getD (a .values) 0 0) e))

@@ -118,7 +118,8 @@ slice-aggregate-put-text c =
     let at-find-past2 = at-emit .before .before .before in
     let at-find-past = at-find-past2 .before .before in
     let at-args = at-find-past .before .before .before in
-    sym (length-take-le _ _ (source-length (at-args .args .s .now) (at-args .pre .0) _ (at-find-past .find-past .ensures) _ (at-find-past2 .find-past2 .ensures)
+    sym (length-take-le _ _ (source-length (at-args .args .s .now) (at-args .pre .0) _ (at-find-past .find-past .ensures) _
+    (at-find-past2 .find-past2 .ensures)
     (at-args .pre .1) _ _ _ _ _ (at-emit .emit .ensures) (at-emit .emit .kept .0) (at-emit2 .emit2 .ensures) (at-emit2 .emit2 .kept .0) refl))
 
 returns-2 : tie.Need-returns-2
