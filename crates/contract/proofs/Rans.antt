@@ -8,7 +8,7 @@ use native.Mathlib.Omega.{arith}
 use lib.Dec.{ltb, eqb}
 use lib.ListN.{length}
 use borrow.Author.Tests.{ne-eqb, eqb-true, eqb-false}
-use Rattle.output.specs.Answers.{Answer, unanswered}
+use Rattle.output.specs.Answers.{Answer, unanswered, filled}
 use Rattle.output.proofs.Answering.{refusing-is}
 use Rattle.model.specs.Fields.{when}
 use Rattle.model.specs.Package.{State, empty}

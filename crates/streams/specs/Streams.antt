@@ -3,7 +3,7 @@
 -- Assumes nothing.
 use Prim.Native.Nat.{ℕ, zero, suc, _+_, _-_, _*_, _^_, _≤_, _<_}
 use mathlib.Core.Path.{_≡_}
-use mathlib.Core.List.{List, _++_, flatMap}
+use mathlib.Core.List.{List, [], _++_, flatMap}
 use lib.ListN.{length}
 use lib.Seq.{slice}
 use Rattle.output.specs.Answers.{Answer, Text, written}
