@@ -11,7 +11,7 @@ use lib.ListN.{length, getD}
 use borrow.Author.Tests.{ne-eqb}
 use Rattle.names.specs.Names.{partName, extensionAt}
 use Rattle.names.specs.Types.{mediaType, extension}
-use Rattle.names.proofs.Lengths.{part-name-size, media-type-size, media-size}
+use Rattle.names.proofs.Lengths.{part-name-size, media-type-size}
 use Rattle.model.specs.Sets.{Bytes, lookup}
 use Rattle.model.specs.Fields.{when, first, prefixOf, defaultFields, overrideFields}
 use Rattle.model.specs.Package.{Item, Default, Override, State, nameKey, keyOfDefault, keyOfOverride, extensionOf, defaultFor, typeOf, typeOfDefault, mediaTypeOf, defaultKind, overrideKind}
