@@ -4,7 +4,6 @@ use Prim.Native.Nat.{ℕ}
 use mathlib.Core.Path.{_≡_, refl, ap, sym, _∙_, subst}
 use mathlib.Core.Bool.{Bool, true, not, true≢false}
 use native.Mathlib.Omega.{arith}
-use lib.ListN.{length}
 use Rattle.iri.specs.Answers.{Answer, unanswered}
 use Rattle.iri.specs.Scratch.{Sent}
 use Rattle.iri.proofs.Sending.{refusing-answered}

@@ -24,15 +24,8 @@ add-n c =
     let at-pre = at-loop .before .before in
     omega (arith, at-pre .pre .0, at-loop .loop .inv .few, at-loop-test .loop-test .taken, c .size .ensures .1)
 
-loop-again : tie.Need-loop-again Inv-loop μ-loop
-loop-again c =
-    summing-more _ _ _ _ _ (c .before .before .loop .inv) (c .before .loop-test .taken) _ (c .size .ensures .0) (c .size .ensures .1)
-
-returns : tie.Need-returns Inv-loop μ-loop
-returns c = summed _ _ _ _ _ (c .before .loop .inv) (c .loop-test .left)
-
 pub run-size-spec : {M : Type 1} → statement M
 run-size-spec =
-    tie.close
-    (tie.spec
-    Inv-loop μ-loop (λ c. summing-begin _ _ _) size-requires add-n (λ c. search needs) (λ c. search needs) loop-again returns)
+    tie.close (tie.spec
+    Inv-loop μ-loop (λ c. summing-begin _ _ _) size-requires add-n (λ c. search needs) (λ c. search needs) (λ c. search summing-more)
+    (λ c. summed _ _ _ _ _ (c .before .loop .inv) (c .loop-test .left)))
