@@ -9,7 +9,7 @@ use lib.Dec.{ltb}
 use lib.ListN.{length, drop, length-append, length-drop}
 use lib.Seq.{drop-drop}
 use borrow.Author.Tests.{lt-ltb, le-ltb, ne-eqb}
-use Rattle.iri.specs.Answers.{Answer, answer}
+use Rattle.iri.specs.Answers.{Answer}
 use Rattle.model.specs.Sets.{Bytes}
 use Rattle.model.specs.Package.{State, empty}
 use Rattle.model.specs.Calls.{Call, Start, startRefusal, step, answers, after}
@@ -20,7 +20,6 @@ use Rattle.contract.proofs.Rans.{changed-made}
 use Rattle.script.specs.Calls.{callSize, isCall, callIn}
 use Rattle.script.proofs.CallTests.{call-inside}
 use Rattle.abi.specs.declared.replies.Reply.{Reply}
-use Rattle.abi.specs.Replies.{replyOf}
 use Rattle.abi.specs.Scripts.{replySize, recorded, unread, spanOf, lentIn, Entry, Made, Unread, entriesTo, callsIn, sizeIn, writtenFor, Scripted, ended, full, strange, made, FromLedger, RunAs}
 use Rattle.abi.proofs.Recording.{reply-length}
 use Rattle.abi.proofs.Turning.{span-of-none}

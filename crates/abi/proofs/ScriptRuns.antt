@@ -2,18 +2,15 @@
 -- Assumes nothing.
 use Prim.Native.Nat.{ℕ, suc, _+_, _-_, _≤_, _<_}
 use mathlib.Core.Path.{_≡_, refl, ap, sym, _∙_, subst}
-use mathlib.Core.Bool.{true, false}
-use mathlib.Core.List.{List, [], _++_, append-assoc}
+use mathlib.Core.List.{[], _++_, append-assoc}
 use native.Mathlib.Omega.{arith}
 use native.Mathlib.Nat.{zero-add, add-zero}
 use lib.ListN.{length, take, drop, length-append, length-drop, take-append-drop, drop-of-length-le}
 use lib.Seq.{take-at, drop-at, drop-drop, length-take-le, take-append-add, drop-append-add}
 use Rattle.chars.proofs.Searches.{take-rest}
-use Rattle.iri.specs.Answers.{Answer}
 use Rattle.model.specs.Sets.{Bytes}
 use Rattle.model.proofs.Lists.{append-nil}
-use Rattle.contract.specs.Ran.{Ran}
-use Rattle.script.specs.Calls.{callSize, isCall, callIn}
+use Rattle.script.specs.Calls.{callSize, callIn}
 use Rattle.script.proofs.CallTests.{call-inside}
 use Rattle.abi.specs.Scripts.{replySize, recorded, unread, spanOf, lentIn, Scripted, ended as run-ended, full as run-full, strange as run-strange, made as run-made}
 use Rattle.abi.specs.Turns.{Turned, full, strange, made, Going}

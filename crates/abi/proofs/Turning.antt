@@ -3,20 +3,19 @@
 use Prim.Native.Nat.{ℕ, _+_, _-_, _≤_, _<_}
 use mathlib.Core.Path.{_≡_, refl, ap, ap₂, sym, _∙_, subst}
 use mathlib.Core.Bool.{true, false}
-use mathlib.Core.List.{List, _++_}
+use mathlib.Core.List.{_++_}
 use native.Mathlib.Omega.{arith}
 use lib.ListN.{length, take, drop, length-append, length-drop}
 use lib.Seq.{length-take-le}
-use Rattle.iri.specs.Answers.{Answer}
 use Rattle.model.specs.Sets.{Bytes}
 use Rattle.model.specs.Calls.{Call, refused}
 use Rattle.store.specs.Buffer.{splice}
-use Rattle.script.specs.Calls.{headSize, roomOf, callSize, between, coded, isCall, callIn}
+use Rattle.script.specs.Calls.{headSize, roomOf, between, coded, isCall, callIn}
 use Rattle.script.specs.declared.heads.Head.{Head}
 use Rattle.script.specs.Reading.{Called}
 use Rattle.abi.specs.declared.replies.Reply.{Reply}
 use Rattle.abi.specs.Replies.{replyOf}
-use Rattle.abi.specs.Scripts.{replySize, replyBytes, told, left, recorded, unread, spanOf, lentIn}
+use Rattle.abi.specs.Scripts.{replySize, replyBytes, recorded, unread, spanOf, lentIn}
 use Rattle.abi.specs.Turns.{Told, Turned, full, strange, made}
 use Rattle.abi.proofs.Recording.{reply-length, spliced-start, recorded-is}
 

@@ -9,7 +9,7 @@ use Rattle.iri.specs.Answers.{Answer}
 use Rattle.model.specs.Sets.{Bytes}
 use Rattle.model.specs.Calls.{Call}
 use Rattle.contract.specs.Ran.{Ran}
-use Rattle.script.specs.Calls.{roomOf, callSize, isCall, callIn}
+use Rattle.script.specs.Calls.{callSize, isCall, callIn}
 use Rattle.abi.specs.declared.replies.Reply.{Reply}
 use Rattle.abi.specs.Replies.{replyOf}
 use Rattle.abi.specs.Scripts.{replySize, told, left, recorded, unread, spanOf, lentIn, Scripted}
