@@ -8,7 +8,8 @@ use Rattle.worked.proofs.led.Tie as tie
 
 same-length : tie.Need-same-length
 same-length c =
-    let at-put-relationship = c .before .before .before .before .before .before .before .before .before .before .before .before .before .before .before in
+    let at-write-types = c .before .before .before .before .before .before .before .before .before .before in
+    let at-put-relationship = at-write-types .before .before .before .before .before in
     let at-put-item = at-put-relationship .before .before .before .before .before .before .before .before in
     let at-put-default = at-put-item .before .before .before .before .before .before in
     let at-start = at-put-default .before .before .before .before .before .before in

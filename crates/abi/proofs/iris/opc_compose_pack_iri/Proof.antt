@@ -8,8 +8,7 @@ returns : tie.Need-returns
 returns c =
     let at-compose = c .before .before .before in
     let args = at-compose .before .before .before .before .before .args in
-    let given = args in
-    written-handed (compose (given .base .now) (given .name .now)) (given .out .now) _ _ _ (at-compose .compose .ensures)
+    written-handed (compose (args .base .now) (args .name .now)) (args .out .now) _ _ _ (at-compose .compose .ensures)
     (c .of-written .ensures _)
 
 pub opc-compose-pack-iri-spec : {M : Type 1} → statement M

@@ -8,8 +8,7 @@ returns : tie.Need-returns
 returns c =
     let at-relationships-part = c .before .before .before in
     let args = at-relationships-part .before .before .before .before .args in
-    let given = args in
-    written-handed (relationshipsPart (given .source .now)) (given .out .now) _ _ _ (at-relationships-part .relationships-part .ensures)
+    written-handed (relationshipsPart (args .source .now)) (args .out .now) _ _ _ (at-relationships-part .relationships-part .ensures)
     (c .of-written .ensures _)
 
 pub opc-relationships-part-spec : {M : Type 1} → statement M

@@ -8,8 +8,7 @@ returns : tie.Need-returns
 returns c =
     let at-resolve-pack = c .before .before .before in
     let args = at-resolve-pack .before .before .before .before .args in
-    let given = args in
-    located-handed (resolvePack (given .iri .now)) (given .out .now) _ _ _ (at-resolve-pack .resolve-pack .ensures)
+    located-handed (resolvePack (args .iri .now)) (args .out .now) _ _ _ (at-resolve-pack .resolve-pack .ensures)
     (c .of-resolved .ensures _)
 
 pub opc-resolve-pack-iri-spec : {M : Type 1} → statement M

@@ -8,8 +8,7 @@ returns : tie.Need-returns
 returns c =
     let at-resolve-reference = c .before .before .before in
     let args = at-resolve-reference .before .before .before .before .before .args in
-    let given = args in
-    written-handed (resolveReference (given .base .now) (given .reference .now)) (given .out .now) _ _ _
+    written-handed (resolveReference (args .base .now) (args .reference .now)) (args .out .now) _ _ _
     (at-resolve-reference .resolve-reference .ensures) (c .of-written .ensures _)
 
 pub opc-resolve-reference-spec : {M : Type 1} → statement M

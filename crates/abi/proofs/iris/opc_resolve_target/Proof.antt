@@ -8,8 +8,7 @@ returns : tie.Need-returns
 returns c =
     let at-resolve-target = c .before .before .before in
     let args = at-resolve-target .before .before .before .before .before .args in
-    let given = args in
-    written-handed (resolveTarget (given .source .now) (given .target .now)) (given .out .now) _ _ _
+    written-handed (resolveTarget (args .source .now) (args .target .now)) (args .out .now) _ _ _
     (at-resolve-target .resolve-target .ensures) (c .of-written .ensures _)
 
 pub opc-resolve-target-spec : {M : Type 1} → statement M

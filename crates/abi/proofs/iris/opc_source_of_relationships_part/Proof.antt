@@ -8,8 +8,7 @@ returns : tie.Need-returns
 returns c =
     let at-source-of = c .before .before .before in
     let args = at-source-of .before .before .before .before .args in
-    let given = args in
-    written-handed (sourcePart (given .name .now)) (given .out .now) _ _ _ (at-source-of .source-of .ensures) (c .of-written .ensures _)
+    written-handed (sourcePart (args .name .now)) (args .out .now) _ _ _ (at-source-of .source-of .ensures) (c .of-written .ensures _)
 
 pub opc-source-of-relationships-part-spec : {M : Type 1} → statement M
 opc-source-of-relationships-part-spec =

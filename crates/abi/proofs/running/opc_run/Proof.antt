@@ -10,7 +10,8 @@ use Rattle.abi.proofs.running.opc_run.Statement.{statement}
 use Rattle.abi.proofs.running.opc_run.Tie as tie
 
 abbrev Inv-loop : tie.InvT-loop
-Inv-loop pkg₀ script out₀ read₀ written₀ made₀ pkg out read written made = Going script pkg₀ out₀ read written made pkg out × (length pkg ≡ length pkg₀)
+Inv-loop pkg₀ script out₀ read₀ written₀ made₀ pkg out read written made =
+    Going script pkg₀ out₀ read written made pkg out × (length pkg ≡ length pkg₀)
 
 abbrev μ-loop : tie.MeasureT-loop
 μ-loop pkg₀ script out₀ read₀ written₀ made₀ pkg out read written made = length script - read

@@ -14,7 +14,6 @@ returns c =
 
 pub put-stream-spec : {M : Type 1} → statement M
 put-stream-spec =
-    tie.close
-    (tie.spec
+    tie.close (tie.spec
     (λ c. search needs) (λ c κs. search needs) (λ c κs. search needs) (λ c κs. search needs) (λ c κs. search needs) (λ c. search needs)
     returns)

@@ -14,7 +14,8 @@ use Rattle.streams.proofs.markup.put_quoted.Statement.{statement}
 use Rattle.streams.proofs.markup.put_quoted.Tie as tie
 
 abbrev Inv-loop : tie.InvT-loop
-Inv-loop out₀ from s at₀ i₀ k₀ out at i k = (i ≤ length s) × (k ≡ i + indexOf ampersand (drop i s)) × (length out ≡ length out₀) × Sent out₀ from (quoted (take i s)) at out
+Inv-loop out₀ from s at₀ i₀ k₀ out at i k =
+    (i ≤ length s) × (k ≡ i + indexOf ampersand (drop i s)) × (length out ≡ length out₀) × Sent out₀ from (quoted (take i s)) at out
 
 abbrev μ-loop : tie.MeasureT-loop
 μ-loop out₀ from s at₀ i₀ k₀ out at i k = length s - i
