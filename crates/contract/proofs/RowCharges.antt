@@ -12,7 +12,7 @@ use Rattle.store.specs.Rows.{Row, total}
 use Rattle.store.proofs.Headers.{rows-count}
 use Rattle.contract.specs.Rows.{RowKind, itemRows, defaultRows, overrideRows, relationshipRows, entryRows, otherRows, rowsFor}
 use Rattle.contract.specs.Holds.{Holds}
-use Rattle.contract.proofs.RowKinds.{RowLawful, item-rows, default-rows, override-rows, relationship-rows, length-rows}
+use Rattle.contract.proofs.RowKinds.{RowLawful, item-rows, default-rows, override-rows, relationship-rows}
 
 total-append : (a b : List Row) → total (a ++ b) ≡ total a + total b
 unfolding total

@@ -10,10 +10,10 @@ use lib.Dec.{leb, ltb}
 use lib.ListN.{length}
 use borrow.Author.Tests.{leb-false}
 use Rattle.output.specs.Answers.{Answer}
-use Rattle.model.specs.Sets.{Key, held, lookup, insert, remove, Each}
+use Rattle.model.specs.Sets.{Key, held, lookup, insert, remove}
 use Rattle.model.specs.Fields.{when, first}
-use Rattle.model.specs.Package.{Relationship, State, defaultLimit, overrideLimit, relationshipLimit, keyOfDefault, keyOfOverride, keyOfRelationship, charge}
-use Rattle.model.specs.Calls.{Change, done, refused, changed, noRoom, change, changeRefusal, changeMade, withDefaults, withOverrides, withRelationships, putIn, takenOut}
+use Rattle.model.specs.Package.{State, charge}
+use Rattle.model.specs.Calls.{Change, done, refused, changed, noRoom, change, changeRefusal, changeMade, putIn, takenOut}
 use Rattle.base.proofs.Bools.{or-false-left}
 use Rattle.store.specs.Layout.{countOf, usedOf, slotCount}
 use Rattle.store.specs.Rows.{Row, rowSize, rowsOf}
@@ -21,9 +21,8 @@ use Rattle.contract.specs.Rows.{setOf, setKey, rowKey, RowKind, rowsFor}
 use Rattle.contract.specs.Holds.{Lies, Holds}
 use Rattle.contract.specs.Searches.{Ordered}
 use Rattle.contract.specs.Entries.{rowCount, keyTaken, noRowRoom, Became, Entered, Dropped}
-use Rattle.contract.proofs.RowKeys.{item-row-set, default-row-set, default-row-key, override-row-set, override-row-key, relationship-row-set, relationship-row-key}
-use Rattle.contract.proofs.RowOrders.{each-append, each-of, items-below, defaults-above, holds-ordered}
-use Rattle.contract.proofs.RowCharges.{used-charge, count-rows, length-others}
+use Rattle.contract.proofs.RowOrders.{holds-ordered}
+use Rattle.contract.proofs.RowCharges.{used-charge, count-rows}
 use Rattle.contract.proofs.Rans.{changed-refused}
 use Rattle.model.proofs.Refusals.{changed-done}
 use Rattle.contract.proofs.RowKinds.{RowLawful}

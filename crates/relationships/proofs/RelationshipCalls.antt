@@ -1,7 +1,7 @@
 -- A put and a drop of a relationship: its fields, and that they are a put and a drop of the set.
 -- Assumes nothing.
-use Prim.Native.Nat.{ℕ, _+_, _≤_, _<_}
-use mathlib.Core.Path.{_≡_, refl, ap, sym, _∙_, subst}
+use Prim.Native.Nat.{ℕ, _≤_, _<_}
+use mathlib.Core.Path.{_≡_, refl, ap, sym, _∙_}
 use mathlib.Core.Bool.{Bool, true, false, not, cond}
 use mathlib.Core.List.{List, [], _∷_}
 use native.Mathlib.Omega.{arith}
@@ -10,9 +10,8 @@ use lib.ListN.{length}
 use borrow.Author.Tests.{not-true, not-false, leb-true, le-leb, lt-leb}
 use Rattle.names.specs.Types.{identifier}
 use Rattle.names.specs.Iris.{packageIri}
-use Rattle.output.specs.Answers.{Answer}
 use Rattle.targets.specs.Targets.{sourceRefusal, targetRefusal, targetRefusalFrom}
-use Rattle.model.specs.Sets.{Bytes, Key, held, lookup}
+use Rattle.model.specs.Sets.{Bytes}
 use Rattle.model.specs.Fields.{when, first, sourceField, idField, relationshipTypeField, modeField, targetField, relationshipFields}
 use Rattle.model.specs.Package.{relationshipKey}
 use Rattle.model.specs.Calls.{PutRelationship, DropRelationship, putRelationshipRefusal, dropRelationshipRefusal}

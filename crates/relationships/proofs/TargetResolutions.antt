@@ -3,7 +3,7 @@
 use Prim.Native.Nat.{ℕ, _+_, _≤_, _<_}
 use mathlib.Core.Path.{_≡_, refl, ap, sym, _∙_, subst}
 use mathlib.Core.Bool.{Bool, true, false, not}
-use mathlib.Core.List.{List, [], _∷_, _++_}
+use mathlib.Core.List.{List, [], _∷_}
 use mathlib.Core.Option.{Option, none, some, Option·none-ne-some, Option·some-injective}
 use native.Mathlib.Omega.{arith}
 use lib.Dec.{eqb}
@@ -14,7 +14,7 @@ use Rattle.chars.specs.Bytes.{numberSign}
 use Rattle.chars.specs.Lists.{indexOf}
 use Rattle.chars.proofs.Searches.{index-le}
 use Rattle.names.specs.Iris.{packageIri}
-use Rattle.output.specs.Answers.{Answer, answer, Text, Refused, filled, choose}
+use Rattle.output.specs.Answers.{Answer, answer, Text, Refused, filled}
 use Rattle.iri.specs.References.{resolve}
 use Rattle.targets.specs.Targets.{resolvePath}
 use Rattle.pack.specs.Pack.{unfragmented, packIri}
@@ -26,7 +26,7 @@ use Rattle.output.proofs.Answering.{refusing-is, fitted-short, fitted-bytes, an
 use Rattle.model.specs.Sets.{Bytes, lookup}
 use Rattle.model.specs.Fields.{when, first, sourceField, idField, packageField}
 use Rattle.model.specs.Package.{relationshipKind, State, Relationship, relationshipKey, keyOfRelationship, group, isPart}
-use Rattle.model.specs.Calls.{Prints, ResolveRelationship, Numbered, flag, resolved, printed, withRelationships}
+use Rattle.model.specs.Calls.{Prints, ResolveRelationship, Numbered, flag, resolved, printed}
 use Rattle.model.proofs.Numbers.{numbered, zero-numbered, resolve-fields-numbered}
 use Rattle.model.proofs.Refusals.{first-one, first-front, first-past, all-none, unmet}
 use Rattle.model.proofs.Lookups.{lookup-each}

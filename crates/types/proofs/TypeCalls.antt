@@ -8,25 +8,13 @@ use native.Mathlib.Omega.{arith}
 use lib.ListN.{length}
 use borrow.Author.Tests.{not-false}
 use Rattle.names.specs.Names.{partName}
-use Rattle.names.specs.Types.{extension, mediaType}
-use Rattle.output.specs.Answers.{Answer}
-use Rattle.model.specs.Sets.{Bytes, Key, held, lookup, insert, remove}
-use Rattle.model.specs.Fields.{when, first, typeField, defaultFields, overrideFields, extensionField, partField}
-use Rattle.model.specs.Package.{State, Default, Override, defaultLimit, overrideLimit, nameKey, keyOfDefault, keyOfOverride}
-use Rattle.model.specs.Calls.{Change, Changes, PutDefault, DropDefault, PutOverride, DropOverride, refused, noRoom, changeRefusal, changeMade, putDefaultRefusal, dropDefaultRefusal, putOverrideRefusal, dropOverrideRefusal, withDefaults, withOverrides}
-use Rattle.store.specs.Layout.{countOf, slotCount}
-use Rattle.store.specs.Rows.{Row, makeRow, rowSize}
-use Rattle.contract.specs.Rows.{second, keyIn, defaultTag, overrideTag, defaultRow, overrideRow, defaultRows, overrideRows}
-use Rattle.contract.specs.Answers.{ofDid}
-use Rattle.contract.specs.declared.answers.Did.the-variants.{Refused}
-use Rattle.contract.specs.Holds.{Holds}
-use Rattle.contract.specs.Entries.{Entered, Dropped}
-use Rattle.contract.specs.Ran.{Ran}
-use Rattle.contract.specs.Opening.{Open}
-use Rattle.contract.proofs.Rans.{ran-changed, field-refused}
-use Rattle.names.proofs.Lengths.{extension-some, name-some, part-name-size, extension-size}
-use Rattle.contract.proofs.FirstRefusals.{first-met, first-unmet, first-one}
-use Rattle.contract.proofs.SetStates.{Among, defaults-among, overrides-among, default-slot, override-slot, drop-step, put-step}
+use Rattle.names.specs.Types.{extension}
+use Rattle.model.specs.Sets.{Bytes}
+use Rattle.model.specs.Fields.{defaultFields, overrideFields, extensionField, partField}
+use Rattle.model.specs.Package.{Default, Override, nameKey}
+use Rattle.model.specs.Calls.{PutDefault, DropDefault, PutOverride, DropOverride, putDefaultRefusal, dropDefaultRefusal, putOverrideRefusal, dropOverrideRefusal}
+use Rattle.contract.specs.Rows.{defaultRows, overrideRows}
+use Rattle.names.proofs.Lengths.{part-name-size, extension-size}
 use Rattle.model.proofs.Refusals.{all-none, unmet}
 use Rattle.contract.proofs.SetCalls.{Putting, Dropping}
 
