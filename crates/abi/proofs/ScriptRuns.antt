@@ -9,8 +9,6 @@ use lib.ListN.{length, take, drop, length-append, length-drop, take-append-drop,
 use lib.Seq.{take-at, drop-at, drop-drop, length-take-le, take-append-add, drop-append-add}
 use Rattle.base.proofs.Lists.{take-rest}
 use Rattle.model.specs.Sets.{Bytes}
-use Rattle.chars.proofs.Searches.{take-rest}
-use Rattle.model.proofs.Lists.{append-nil}
 use Rattle.script.specs.Calls.{callSize, callIn}
 use Rattle.script.proofs.CallTests.{call-inside}
 use Rattle.abi.specs.Scripts.{replySize, recorded, unread, spanOf, lentIn, Scripted, ended as run-ended, full as run-full, strange as run-strange, made as run-made}

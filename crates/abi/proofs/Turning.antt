@@ -10,7 +10,6 @@ use lib.Seq.{length-take-le}
 use Rattle.model.specs.Sets.{Bytes}
 use Rattle.model.specs.Calls.{Call, refused}
 use Rattle.base.specs.Buffer.{splice}
-use Rattle.store.specs.Buffer.{splice}
 use Rattle.script.specs.Calls.{headSize, roomOf, between, coded, isCall, callIn}
 use Rattle.script.specs.declared.heads.Head.{Head}
 use Rattle.script.specs.Reading.{Called}

@@ -6,9 +6,6 @@ use native.Mathlib.Omega.{arith}
 use Rattle.output.specs.Answers.{Answer, unanswered}
 use Rattle.output.specs.Sends.{Sent}
 use Rattle.output.proofs.Answering.{refusing-answered}
-use Rattle.iri.specs.Answers.{Answer, unanswered}
-use Rattle.iri.specs.Scratch.{Sent}
-use Rattle.iri.proofs.Sending.{refusing-answered}
 use Rattle.model.specs.Sets.{Bytes}
 use Rattle.model.specs.Calls.{Change, Changes, refused}
 use Rattle.model.specs.Sheet.{Line, Does, Lists, Unreadable, lineRead, numberLine, shownBy}

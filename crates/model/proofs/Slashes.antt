@@ -1,20 +1,18 @@
 -- Texts that begin alike stand side by side in their order.
 -- Assumes nothing.
-use Prim.Native.Nat.{ℕ, _+_}
-use mathlib.Core.Path.{_≡_, refl, ap, sym, _∙_}
-use mathlib.Core.Bool.{Bool, true, false, _&&_, cond, true≢false}
-use mathlib.Core.List.{List, [], _∷_, _++_}
+use Prim.Native.Nat.{ℕ}
+use mathlib.Core.Path.{_≡_, refl, sym}
+use mathlib.Core.Bool.{Bool, true, false, _&&_, cond}
+use mathlib.Core.List.{List, [], _∷_}
 use native.Mathlib.Omega.{arith}
-use lib.Dec.{leb, ltb, eqb}
+use lib.Dec.{ltb, eqb}
 use lib.ListN.{length, take}
-use borrow.Author.Tests.{ltb-false, leb-true, eqb-true, eq-eqb}
-use Rattle.chars.specs.Bytes.{slash}
+use borrow.Author.Tests.{ltb-false, eqb-true, eq-eqb}
 use Rattle.chars.specs.Lists.{same, begins}
-use Rattle.chars.specs.Folding.{lower, fold, order}
+use Rattle.chars.specs.Folding.{order}
 use Rattle.chars.specs.declared.folding.Order.the-variants.{Less, Greater}
-use Rattle.base.proofs.Bools.{and-left, and-right, and-true, and-false}
+use Rattle.base.proofs.Bools.{and-left, and-right, and-true}
 use Rattle.chars.proofs.Orders.{less-greater}
-use Rattle.names.specs.Names.{segment, partName}
 
 -- between t and a text that begins with t, all begin with t
 pub begins-between : (t a b : List ℕ) → (order a t ≡ Less → ⊥) → order a b ≡ Less → begins t b ≡ true → begins t a ≡ true

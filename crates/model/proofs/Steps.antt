@@ -9,7 +9,7 @@ use lib.Dec.{ltb}
 use lib.ListN.{length}
 use borrow.Author.Tests.{ltb-false}
 use Rattle.chars.specs.Folding.{equivalent}
-use Rattle.model.specs.Sets.{Bytes, Key, sameKey, sumOf, insert, remove, Each, AllPairs}
+use Rattle.model.specs.Sets.{Key, sameKey, sumOf, insert, remove, Each, AllPairs}
 use Rattle.model.specs.Fields.{prefixOf, suffixOf}
 use Rattle.model.specs.Package.{Item, State, Kind, itemKind, defaultKind, overrideKind, relationshipKind, empty, charge, group, disagrees, grows, itemKey, nameKey, relationshipKey, keyOfItem}
 use Rattle.model.specs.Calls.{Call, Start, Looks, Changes, Prints, capacityLimit, overhead, startRefusal, step, after, Change, PutItem, DropItem, PutDefault, DropDefault, PutOverride, DropOverride, PutRelationship, DropRelationship, putRefusal, putIn, takenOut, misfits, changeRefusal, changeMade, change, putItemRefusal, putDefaultRefusal, putOverrideRefusal, putRelationshipRefusal}

@@ -4,17 +4,14 @@ use Prim.Native.Nat.{ℕ, suc, _+_, _-_, _^_, _≤_, _<_, min}
 use mathlib.Core.Path.{_≡_, refl, ap, sym, _∙_, subst}
 use mathlib.Core.Bool.{Bool, true, false}
 use mathlib.Core.List.{List, [], _∷_, _++_, append-assoc, flatMap, append-nil}
-use native.Mathlib.Nat.{zero-add}
 use native.Mathlib.Omega.{arith}
 use native.Mathlib.Numerals.{add-one}
 use lib.Dec.{leb}
 use lib.ListN.{length, getD, take, drop, length-take, length-drop, length-append, drop-of-length-le}
 use lib.Seq.{take-all, take-nil, drop-nil, drop-cons}
 use borrow.Author.Tests.{leb-true, leb-false}
-use Rattle.output.specs.Answers.{answer, written, Text}
 use Rattle.output.specs.Sends.{Sent}
 use Rattle.output.proofs.Sending.{sent-none, sent-more}
-use Rattle.output.proofs.Answering.{answer-bytes}
 use Rattle.model.specs.Package.{noItem, Item, State, content}
 use Rattle.model.proofs.Contents.{read-piece}
 use Rattle.base.specs.Buffer.{splice}
