@@ -1,6 +1,6 @@
 -- The line of a row, and the lines of a run of rows, from what the parts of the code ensure.
 -- Assumes nothing.
-use Prim.Native.Nat.{ℕ, _+_, _-_, _^_, _≤_, _<_}
+use Prim.Native.Nat.{ℕ, _+_, _^_, _≤_, _<_}
 use mathlib.Core.Path.{_≡_, refl, ap, ap₂, sym, _∙_}
 use mathlib.Core.List.{List, [], _++_, append-assoc, flatMap, append-nil}
 use native.Mathlib.Omega.{arith}

@@ -37,7 +37,13 @@ fn put_quoted(out: &mut [u8], from: usize, s: &[u8]) -> usize
 }
 
 // The line of a Default or an Override: how it begins, then its key and its media type.
-pub(crate) fn put_type_line(out: &mut [u8], at: usize, head: &[u8], key: &[u8], media: &[u8]) -> usize
+pub(crate) fn put_type_line(
+    out: &mut [u8],
+    at: usize,
+    head: &[u8],
+    key: &[u8],
+    media: &[u8],
+) -> usize
     requires { ⌜ (at ≤ 2 ^ 53) × (length (now head) ≤ 100) × (length (now key) < 2 ^ 32) × (length (now media) < 2 ^ 32) ⌝ }
     ensures { λ r. ⌜ Sent (now (out .entry)) at (typeText (now (head .entry)) (now (key .entry)) (now (media .entry))) r (now (out .exit)) ⌝ }
 {
