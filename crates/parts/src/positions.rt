@@ -4,6 +4,7 @@ use crate::runs::own_end;
 use contract::gate::opened;
 use contract::search::item_count;
 use output::writing::Written;
+use output::writing::put_text;
 use store::rows::field;
 ghost use mathlib.Core.Path.{_≡_};
 ghost use mathlib.Core.Bool.{cond};

@@ -1,7 +1,5 @@
 // A stream with the lines of a run of rows.
-use crate::markup::put_relationship;
 use crate::markup::put_relationship_line;
-use crate::markup::put_type;
 use crate::markup::put_type_line;
 use contract::DEFAULT_TAG;
 use contract::OVERRIDE_TAG;
