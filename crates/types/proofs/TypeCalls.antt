@@ -26,11 +26,11 @@ module _ (s v : Bytes) where
   abbrev pub asOverride : Override
   asOverride = record { name = s; type = v }
 
-  pub putting-default : Putting defaultRows (PutDefault s v) asDefault
+  pub putting-default : Putting defaultRows (PutDefault s v) asDefault (λ _. [])
   unfolding putDefaultRefusal
   putting-default = record { refusal = λ S. refl; made = λ S. refl }
 
-  pub putting-override : Putting overrideRows (PutOverride s v) asOverride
+  pub putting-override : Putting overrideRows (PutOverride s v) asOverride (λ _. [])
   unfolding putOverrideRefusal
   putting-override = record { refusal = λ S. refl; made = λ S. refl }
 
