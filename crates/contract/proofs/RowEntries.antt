@@ -29,7 +29,8 @@ use Rattle.contract.specs.Rows.{setOf, keyIn, rowKey}
 use Rattle.contract.specs.Searches.{Ordered, Has, Bounded}
 use Rattle.contract.specs.Answers.{ofDid}
 use Rattle.contract.specs.declared.answers.Did.the-variants.{Refused}
-use Rattle.contract.specs.Entries.{Sought, rowCount, RowsCounted, keyTaken, noRowRoom, Roomy, rowRefusal, Weighed, Became, Entered, Dropped}
+use Rattle.contract.specs.Entries.{Sought, rowCount, RowsCounted, keyTaken, noRowRoom, rowRefusal}
+use Rattle.contract.specs.Entries.{Roomy, Weighed, Became, Entered, Dropped}
 
 -- an entry is held where its spot is one of the list
 pub held-spot : {E : Type 0} (key : E → Key) (k : Key) (xs : List E) → held (lookup key k xs) ≡ ltb (spot key k xs) (length xs)
@@ -162,7 +163,10 @@ module _ (b : List ℕ) (set limit size n : ℕ) (en : RowsCounted b set n) wher
         go : (y : Bool) → y ≡ leb size f → Roomy b set limit size y
         go true e =
             let o = leb-true size f (sym e) in
-            record { is = λ q. sym (slots false (le-ltb (capOf b) (usedOf b + size) (omega arith)) q); room = λ _. (omega arith, omega arith) }
+            record {
+              is = λ q. sym (slots false (le-ltb (capOf b) (usedOf b + size) (omega arith)) q);
+              room = λ _. (omega arith, omega arith);
+            }
         go false e =
             let o = leb-false size f (sym e) in
             none-left (λ q. slots true (lt-ltb (capOf b) (usedOf b + size) (omega arith)) q)
@@ -235,7 +239,8 @@ module _ (b : List ℕ) (own limit t : ℕ) (f0 f1 f2 f3 : Bytes) (k : ℕ) (w :
         let K = rowKey X in
         let free : keyTaken b X ≡ false = unmet (keyTaken b X) 10 (omega arith) (all-none _ (sym (w .is o) ∙ z) .0) in
         let e : r ≡ place rowKey K (rowsOf b) =
-        eb .is o ∙ ap (λ (n : ℕ). bound rowKey (keyIn n f0 t f1) (rowsOf b)) es ∙ bound-place rowKey K (rowsOf b) (absent rowKey K (rowsOf b) free) in
+        eb .is o ∙ ap (λ (n : ℕ). bound rowKey (keyIn n f0 t f1) (rowsOf b)) es
+        ∙ bound-place rowKey K (rowsOf b) (absent rowKey K (rowsOf b) free) in
         record {
           sound = x .sound;
           rows = x .rows ∙ ap (λ (i : ℕ). take i (rowsOf b) ++ (X ∷ drop i (rowsOf b))) e ∙ sym (insert-at rowKey X (rowsOf b));
@@ -243,7 +248,8 @@ module _ (b : List ℕ) (own limit t : ℕ) (f0 f1 f2 f3 : Bytes) (k : ℕ) (w :
           format = x .format;
         }
 
-    pub entered-made : (q : List ℕ) → (Sound b → Inserted b q r (makeRow t f0 f1 f2 f3)) → Entered b own limit (makeRow t f0 f1 f2 f3) done q
+    pub entered-made : (q : List ℕ) → (Sound b → Inserted b q r (makeRow t f0 f1 f2 f3)) →
+        Entered b own limit (makeRow t f0 f1 f2 f3) done q
     entered-made q ins = record {
       kept = λ y. absurd (y refl);
       numbered = zero-numbered;

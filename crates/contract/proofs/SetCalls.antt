@@ -23,17 +23,19 @@ use Rattle.contract.proofs.RowKinds.{RowLawful}
 use Rattle.contract.proofs.SetStates.{drop-step, put-step}
 
 module _ {E : Type 0} (K : RowKind E) (c : Change) where
-  -- the change puts in the entry e, for which the call has its own tests; it takes out the entry of the key k, which is judged by the fields
+  -- the change puts in the entry e, for which the call has its own tests
   pub record Putting (e : E) (tests : State → List ℕ) : Type 0 where
     pub refusal : (S : State) → changeRefusal S c ≡ putRefusal (K .kind) S e (tests S)
     pub made : (S : State) → changeMade S c ≡ putIn (K .kind) S e
 
+  -- it takes out the entry of the key k, which is judged by the fields
   pub record Dropping (fields : List ℕ) (k : Key) : Type 0 where
     pub refusal : (S : State) → changeRefusal S c ≡ dropRefusal (K .kind) S fields k
     pub made : (S : State) → changeMade S c ≡ takenOut (K .kind) S k
 
 -- the own tests stand between 10 and the rest; where 10 is met they do not matter
-own-tests : (t : Bool) (own : ℕ) (ms ns : List ℕ) → (t ≡ false → own ≡ first ms) → first (when t 10 ∷ (ms ++ ns)) ≡ first (when t 10 ∷ own ∷ ns)
+own-tests : (t : Bool) (own : ℕ) (ms ns : List ℕ) → (t ≡ false → own ≡ first ms) →
+    first (when t 10 ∷ (ms ++ ns)) ≡ first (when t 10 ∷ own ∷ ns)
 unfolding first
 own-tests true own ms ns h = refl
 own-tests false own ms ns h = first-append ms ns ∙ ap (λ (n : ℕ). first (n ∷ ns)) (sym (h refl))

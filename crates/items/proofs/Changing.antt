@@ -15,7 +15,8 @@ use Rattle.model.specs.Sets.{Bytes, remove}
 use Rattle.model.specs.Places.{spot}
 use Rattle.model.specs.Fields.{first, prefixOf, suffixOf, itemField}
 use Rattle.model.specs.Package.{State, Item, itemKey, keyOfItem, itemAt}
-use Rattle.model.specs.Calls.{Changes, PutItem, DropItem, done, refused, changed, change, withItems, misfits, putItemRefusal, dropItemRefusal}
+use Rattle.model.specs.Calls.{Changes, PutItem, DropItem, done, refused, changed, change, withItems}
+use Rattle.model.specs.Calls.{misfits, putItemRefusal, dropItemRefusal}
 use Rattle.model.proofs.Numbers.{numbered}
 use Rattle.model.proofs.Rows.{rows-remove}
 use Rattle.model.proofs.ItemNames.{accepted-prefix}
@@ -74,7 +75,8 @@ pub putting : (s bytes : Bytes) → Putting itemRows (PutItem s bytes) (record {
 unfolding putItemRefusal
 putting s bytes = record { refusal = λ S. refl; made = λ S. refl }
 
-pub made-row : (s bytes : Bytes) (n t : ℕ) → n ≡ length (prefixOf s) → t ≡ tagOf (suffixOf s) → makeRow t (take n s) (take (length s - n) (drop n s)) bytes [] ≡ itemRow (record { name = s; bytes = bytes })
+pub made-row : (s bytes : Bytes) (n t : ℕ) → n ≡ length (prefixOf s) → t ≡ tagOf (suffixOf s) →
+    makeRow t (take n s) (take (length s - n) (drop n s)) bytes [] ≡ itemRow (record { name = s; bytes = bytes })
 unfolding itemRow
 made-row s bytes n t en et = rw (take-rest s n, prefix-take s n en, et, en)
 

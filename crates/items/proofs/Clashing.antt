@@ -28,7 +28,8 @@ use Rattle.contract.specs.Rows.{tagOf, itemRow, otherRows, rowsFor, keyIn}
 use Rattle.contract.specs.Holds.{Holds}
 use Rattle.contract.specs.Searches.{Bounded, Counted}
 use Rattle.contract.proofs.ItemRows.{item-tag, item-prefix}
-use Rattle.items.specs.Clashes.{tagsDisagree, Grown, common, partedAt, Parted, extends, extendedAt, Extended, opposedAt, Opposed, OpposedBefore, Misfitting}
+use Rattle.items.specs.Clashes.{tagsDisagree, Grown, common, partedAt, Parted, extends}
+use Rattle.items.specs.Clashes.{extendedAt, Extended, opposedAt, Opposed, OpposedBefore, Misfitting}
 use Rattle.items.proofs.Tags.{tags-disagree-is}
 use Rattle.items.proofs.Naming.{prefix-take}
 use Rattle.items.proofs.Locating.{bound-of}
@@ -177,7 +178,8 @@ module _
             ungrown : Growing s (S .items) ≡ false
             ungrown =
                 none-grown S (h .good) s r (r-is S h)
-                (λ z. ap (λ (a : Bytes). eqb (getD (prefixOf s) (common (fold a) (fold (prefixOf s))) 0) slash) (sym (item-prefix b S h (r - 1) (omega (arith, r-le S h)))) ∙ unparted z)
+                (λ z. ap (λ (a : Bytes). eqb (getD (prefixOf s) (common (fold a) (fold (prefixOf s))) 0) slash)
+                (sym (item-prefix b S h (r - 1) (omega (arith, r-le S h)))) ∙ unparted z)
                 (λ z. ap (λ (a : Bytes). extends a (prefixOf s)) (sym (item-prefix b S h r z)) ∙ unextended z)
 
           pub misfit-apart : Misfitting b s 0

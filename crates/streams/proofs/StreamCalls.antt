@@ -24,7 +24,8 @@ use Rattle.model.proofs.Lists.{slice-map, slice-append}
 use Rattle.model.proofs.Joins.{flatMap-append, flatMap-map}
 use Rattle.model.proofs.Groups.{tilde, source-between}
 use Rattle.store.specs.Rows.{Row, rowsOf}
-use Rattle.contract.specs.Rows.{itemRow, defaultRow, overrideRow, relationshipRow, relationshipRows, otherRows, rowsFor, second, keyIn, rowKey}
+use Rattle.contract.specs.Rows.{itemRow, defaultRow, overrideRow, relationshipRow, relationshipRows, otherRows, rowsFor}
+use Rattle.contract.specs.Rows.{second, keyIn, rowKey}
 use Rattle.contract.specs.Holds.{Holds}
 use Rattle.contract.specs.Searches.{Bounded}
 use Rattle.contract.specs.Ran.{Ran}

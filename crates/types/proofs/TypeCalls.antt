@@ -37,11 +37,13 @@ module _ (s v : Bytes) where
   -- the text of accepted fields has a byte at least
   pub default-some : defaultFields s v ≡ 0 → 0 < length s
   unfolding defaultFields
-  default-some z = omega (arith, extension-size s (not-false (extension s) (unmet (not (extension s)) 7 (omega arith) (all-none _ z .0))) .0)
+  default-some z =
+      omega (arith, extension-size s (not-false (extension s) (unmet (not (extension s)) 7 (omega arith) (all-none _ z .0))) .0)
 
   pub override-some : overrideFields s v ≡ 0 → 0 < length s
   unfolding overrideFields
-  override-some z = omega (arith, part-name-size s (not-false (partName s) (unmet (not (partName s)) 4 (omega arith) (all-none _ z .0))) .0)
+  override-some z =
+      omega (arith, part-name-size s (not-false (partName s) (unmet (not (partName s)) 4 (omega arith) (all-none _ z .0))) .0)
 
 module _ (s : Bytes) where
   pub dropping-default : Dropping defaultRows (DropDefault s) (extensionField s ∷ []) (nameKey s)

@@ -11,7 +11,8 @@ returns c =
     let at-hit = at-count .before in
     let at-args = at-hit .before .before .before .before .before .before in
     weighed-taken _ (at-args .args .own) (at-args .args .limit) (at-args .args .t) (at-args .args .f0 .now) (at-args .args .f1 .now)
-    (at-args .args .f2 .now) (at-args .args .f3 .now) _ _ _ (at-count .count .ensures .0) (at-args .pre .0 .1) (at-hit .hit .ensures) (c .if1 .taken)
+    (at-args .args .f2 .now) (at-args .args .f3 .now) _ _ _ (at-count .count .ensures .0) (at-args .pre .0 .1) (at-hit .hit .ensures)
+    (c .if1 .taken)
 
 returns-2 : tie.Need-returns-2
 returns-2 c =

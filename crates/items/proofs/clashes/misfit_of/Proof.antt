@@ -13,7 +13,8 @@ returns : tie.Need-returns
 returns c =
     let at-is-opposed = c .before in
     let at-pre = at-is-opposed .before .before .before .before in
-    misfit-12 _ _ _ _ (at-pre .pre .0 .0) (at-pre .pre .0 .1) _ _ (at-pre .pre .1 .0) (at-pre .pre .1 .1) _ (at-is-opposed .is-opposed .ensures) (c .if1 .taken)
+    misfit-12 _ _ _ _ (at-pre .pre .0 .0) (at-pre .pre .0 .1) _ _ (at-pre .pre .1 .0) (at-pre .pre .1 .1) _
+    (at-is-opposed .is-opposed .ensures) (c .if1 .taken)
 
 slice-aggregate-is-opposed-before : tie.Need-slice-aggregate-is-opposed-before
 slice-aggregate-is-opposed-before c =
@@ -25,8 +26,8 @@ returns-2 c =
     let at-is-opposed-before = c .before in
     let at-is-opposed = at-is-opposed-before .before .before .before in
     let at-pre = at-is-opposed .before .before .before .before in
-    misfit-12-before _ _ _ _ (at-pre .pre .0 .0) (at-pre .pre .0 .1) _ _ (at-pre .pre .1 .0) (at-pre .pre .1 .1) _ (at-is-opposed .is-opposed .ensures) _
-    (at-is-opposed-before .is-opposed-before .ensures) (c .if2 .taken)
+    misfit-12-before _ _ _ _ (at-pre .pre .0 .0) (at-pre .pre .0 .1) _ _ (at-pre .pre .1 .0) (at-pre .pre .1 .1) _
+    (at-is-opposed .is-opposed .ensures) _ (at-is-opposed-before .is-opposed-before .ensures) (c .if2 .taken)
 
 slice-aggregate-is-parted : tie.Need-slice-aggregate-is-parted
 slice-aggregate-is-parted c =
@@ -51,7 +52,8 @@ returns-3 c =
     let at-if1 = at-is-opposed-before .before .before in
     let at-is-opposed = at-if1 .before in
     let at-pre = at-is-opposed .before .before .before .before in
-    misfit-11 _ _ _ _ (at-pre .pre .0 .0) (at-pre .pre .0 .1) _ _ (at-pre .pre .1 .0) (at-pre .pre .1 .1) _ (at-is-opposed .is-opposed .ensures) _ (at-is-opposed-before .is-opposed-before .ensures) (at-if1 .if1 .left)
+    misfit-11 _ _ _ _ (at-pre .pre .0 .0) (at-pre .pre .0 .1) _ _ (at-pre .pre .1 .0) (at-pre .pre .1 .1) _
+    (at-is-opposed .is-opposed .ensures) _ (at-is-opposed-before .is-opposed-before .ensures) (at-if1 .if1 .left)
     (at-if2 .if2 .left) _ (at-has-grown .has-grown .ensures) (c .if4 .taken)
 
 returns-4 : tie.Need-returns-4
@@ -62,7 +64,8 @@ returns-4 c =
     let at-if1 = at-is-opposed-before .before .before in
     let at-is-opposed = at-if1 .before in
     let at-pre = at-is-opposed .before .before .before .before in
-    misfit-0 _ _ _ _ (at-pre .pre .0 .0) (at-pre .pre .0 .1) _ _ (at-pre .pre .1 .0) (at-pre .pre .1 .1) _ (at-is-opposed .is-opposed .ensures) _ (at-is-opposed-before .is-opposed-before .ensures) (at-if1 .if1 .left)
+    misfit-0 _ _ _ _ (at-pre .pre .0 .0) (at-pre .pre .0 .1) _ _ (at-pre .pre .1 .0) (at-pre .pre .1 .1) _
+    (at-is-opposed .is-opposed .ensures) _ (at-is-opposed-before .is-opposed-before .ensures) (at-if1 .if1 .left)
     (at-if2 .if2 .left) _ (at-has-grown .has-grown .ensures) (c .if4 .left)
 
 returns-5 : tie.Need-returns-5
@@ -74,14 +77,14 @@ returns-5 c =
     let at-if1 = at-is-opposed-before .before .before in
     let at-is-opposed = at-if1 .before in
     let at-pre = at-is-opposed .before .before .before .before in
-    misfit-apart _ _ _ _ (at-pre .pre .0 .0) (at-pre .pre .0 .1) _ _ (at-pre .pre .1 .0) (at-pre .pre .1 .1) _ (at-is-opposed .is-opposed .ensures) _
-    (at-is-opposed-before .is-opposed-before .ensures) (at-if1 .if1 .left) (at-if2 .if2 .left) _ (at-is-parted .is-parted .ensures) _
-    (at-is-extended .is-extended .ensures) (c .if3 .left)
+    misfit-apart _ _ _ _ (at-pre .pre .0 .0) (at-pre .pre .0 .1) _ _ (at-pre .pre .1 .0) (at-pre .pre .1 .1) _
+    (at-is-opposed .is-opposed .ensures) _ (at-is-opposed-before .is-opposed-before .ensures) (at-if1 .if1 .left)
+    (at-if2 .if2 .left) _ (at-is-parted .is-parted .ensures) _ (at-is-extended .is-extended .ensures) (c .if3 .left)
 
 pub misfit-of-spec : {M : Type 1} → statement M
 misfit-of-spec =
     tie.close
     (tie.spec
-    slice-aggregate-is-opposed (λ c κs. search needs) returns
-    slice-aggregate-is-opposed-before (λ c κs. search needs) returns-2 slice-aggregate-is-parted (λ c κs. search needs)
-    slice-aggregate-is-extended (λ c κs. search needs) slice-aggregate-has-grown (λ c κs. search needs) returns-3 returns-4 returns-5)
+    slice-aggregate-is-opposed (λ c κs. search needs) returns slice-aggregate-is-opposed-before (λ c κs. search needs) returns-2
+    slice-aggregate-is-parted (λ c κs. search needs) slice-aggregate-is-extended (λ c κs. search needs) slice-aggregate-has-grown
+    (λ c κs. search needs) returns-3 returns-4 returns-5)

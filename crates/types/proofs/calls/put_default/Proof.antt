@@ -46,8 +46,8 @@ returns-3 c =
     let at-opened = at-if1 .before in
     let args = at-opened .before .before .before .before .before .args in
     put-ran defaultRows default-rows _ (let-in _ _ (at-opened .opened .ensures) (at-if1 .if1 .left)) _ _ _ _
-    (putting-default (args .extension .now) (args .media .now)) (at-refusal .default-refusal .ensures) (at-if2 .if2 .left) 0 (λ S h f. refl) _ _
-    (at-put-row .put-row .kept .0) (at-put-row .put-row .ensures)
+    (putting-default (args .extension .now) (args .media .now)) (at-refusal .default-refusal .ensures) (at-if2 .if2 .left)
+    0 (λ S h f. refl) _ _ (at-put-row .put-row .kept .0) (at-put-row .put-row .ensures)
 
 pub put-default-spec : {M : Type 1} → statement M
 put-default-spec =

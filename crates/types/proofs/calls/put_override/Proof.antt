@@ -46,8 +46,8 @@ returns-3 c =
     let at-opened = at-if1 .before in
     let args = at-opened .before .before .before .before .before .args in
     put-ran overrideRows override-rows _ (let-in _ _ (at-opened .opened .ensures) (at-if1 .if1 .left)) _ _ _ _
-    (putting-override (args .name .now) (args .media .now)) (at-refusal .override-refusal .ensures) (at-if2 .if2 .left) 0 (λ S h f. refl) _ _
-    (at-put-row .put-row .kept .0) (at-put-row .put-row .ensures)
+    (putting-override (args .name .now) (args .media .now)) (at-refusal .override-refusal .ensures) (at-if2 .if2 .left)
+    0 (λ S h f. refl) _ _ (at-put-row .put-row .kept .0) (at-put-row .put-row .ensures)
 
 pub put-override-spec : {M : Type 1} → statement M
 put-override-spec =
