@@ -81,7 +81,9 @@ module _ (b : List ℕ) (S : State) (h : Holds b S) where
       let a : rowAt b i ≡ getD (otherRows S) j noRow =
       sym (row-getD b i k) ∙ ap (λ (rs : List Row). getD rs i noRow) (h .lies .rows) ∙ ap (λ (m : ℕ). getD (map itemRow (S .items) ++ otherRows S) m noRow) (sym f)
       ∙ getD-append-add (map itemRow (S .items)) (otherRows S) j noRow in
-      let s : 0 < setOf (getD (otherRows S) j noRow .tag) = each-at (λ (r : Row). 0 < setOf (r .tag)) (otherRows S) j noRow (omega (arith, count-rows b S h, length-append (map itemRow (S .items)) (otherRows S)))
+      let s : 0 < setOf (getD (otherRows S) j noRow .tag) =
+      each-at (λ (r : Row). 0 < setOf (r .tag)) (otherRows S) j noRow
+      (omega (arith, count-rows b S h, length-append (map itemRow (S .items)) (otherRows S)))
       (item-rows .above S) in
       not-item (tagAt b i) (subst (λ (r : Row). 0 < setOf (r .tag)) (sym a) s)
     where

@@ -2,7 +2,7 @@
 -- Assumes nothing.
 use Prim.Native.Nat.{ℕ, suc, _+_, _-_, _≤_, _<_}
 use mathlib.Core.Path.{_≡_, refl, ap, ap₂, sym, _∙_}
-use mathlib.Core.Bool.{Bool, true, false, _||_, cond, true≢false}
+use mathlib.Core.Bool.{Bool, true, false, not, _||_, cond, true≢false}
 use mathlib.Core.List.{List, [], _∷_, _++_}
 use mathlib.Core.Option.{none, some}
 use native.Mathlib.Omega.{arith}
@@ -12,9 +12,11 @@ use borrow.Author.Tests.{lt-ltb, le-ltb, le-leb, lt-leb, leb-true, leb-false, lt
 use Rattle.output.proofs.Answering.{refusing-is}
 use Rattle.model.specs.Sets.{Bytes, Key, sameKey, held, lookup, insert, remove}
 use Rattle.model.specs.Places.{bound, place, spot}
-use Rattle.model.specs.Calls.{done, refused}
+use Rattle.model.specs.Fields.{when, first}
+use Rattle.model.specs.Calls.{done, refused, Numbered}
 use Rattle.model.proofs.Numbers.{numbered, zero-numbered}
 use Rattle.base.proofs.Bools.{not-passing}
+use Rattle.model.proofs.Refusals.{first-met, first-unmet, first-one, all-none, unmet}
 use Rattle.model.proofs.KeyOrders.{same-key-sym}
 use Rattle.model.proofs.Sets.{absent}
 use Rattle.model.proofs.Places.{insert-at, remove-at, lookup-at, lookup-none, bound-hit, bound-miss, bound-place}
@@ -27,7 +29,7 @@ use Rattle.contract.specs.Rows.{defaultTag, overrideTag, setOf, keyIn, r
 use Rattle.contract.specs.Searches.{Ordered, Has, Bounded}
 use Rattle.contract.specs.Answers.{ofDid}
 use Rattle.contract.specs.declared.answers.Did.the-variants.{Refused}
-use Rattle.contract.specs.Entries.{Sought, rowCount, RowsCounted, keyTaken, noRowRoom, Weighed, Became, Entered, Dropped}
+use Rattle.contract.specs.Entries.{Sought, RowsCounted, keyTaken, noRowRoom, rowRefusal, Roomy, Weighed, Became, Entered, Dropped}
 
 -- an entry is held where its spot is one of the list
 pub held-spot : {E : Type 0} (key : E → Key) (k : Key) (xs : List E) → held (lookup key k xs) ≡ ltb (spot key k xs) (length xs)
@@ -136,77 +138,93 @@ module _ (b : List ℕ) (k : Key) (r m : ℕ) (er : Sought b k r) (em : m ≡ co
     made = λ o h. (refl, removed-is q l (rm (o .sound)) o);
   }
 
--- PUTTING IN. The refusal of a new row
-module _ (b : List ℕ) (limit t : ℕ) (f0 f1 f2 f3 : Bytes) (m set r : ℕ) (em : m ≡ countOf b) (es : set ≡ setOf t) (er : Sought b (keyIn set f0 t f1) r) where
+-- PUTTING IN. Whether there is room
+module _ (b : List ℕ) (set limit size n : ℕ) (en : RowsCounted b set n) where
+  room-is : Ordered b → noRowRoom b set limit size ≡ (leb limit n || leb slotCount (countOf b) || ltb (capOf b) (usedOf b + size))
+  room-is q = ap (λ (c : ℕ). leb limit c || leb slotCount (countOf b) || ltb (capOf b) (usedOf b + size)) (sym (en .is q))
+
+  none-left : (Ordered b → noRowRoom b set limit size ≡ true) → Roomy b set limit size false
+  none-left f = record { is = λ q. sym (f q); room = λ e. absurd (true≢false (sym e)) }
+
+  pub roomy-many : limit ≤ n → Roomy b set limit size false
+  roomy-many g = none-left (λ q. room-is q ∙ rw (le-leb limit n g))
+
+  module _ (g : n < limit) (m : ℕ) (em : m ≡ countOf b) where
+    pub roomy-slots : slotCount ≤ m → Roomy b set limit size false
+    roomy-slots h = none-left (λ q. room-is q ∙ rw (lt-leb limit n g, le-leb slotCount (countOf b) (omega arith)))
+
+    pub roomy-bytes : m < slotCount → (f : ℕ) → f + usedOf b ≡ capOf b → (z : Bool) → z ≡ leb size f → Roomy b set limit size z
+    roomy-bytes h f ef z ez = go z ez
+      where
+        slots : (y : Bool) → ltb (capOf b) (usedOf b + size) ≡ y → Ordered b → noRowRoom b set limit size ≡ y
+        slots y e q = room-is q ∙ rw (lt-leb limit n g, lt-leb slotCount (countOf b) (omega arith)) e
+
+        go : (y : Bool) → y ≡ leb size f → Roomy b set limit size y
+        go true e =
+            let o = leb-true size f (sym e) in
+            record {
+              is = λ q. sym (slots false (le-ltb (capOf b) (usedOf b + size) (omega arith)) q);
+              room = λ _. (omega arith, omega arith);
+            }
+        go false e =
+            let o = leb-false size f (sym e) in
+            none-left (λ q. slots true (lt-ltb (capOf b) (usedOf b + size) (omega arith)) q)
+
+-- the refusal of a new row
+module _ (b : List ℕ) (own limit t : ℕ) (f0 f1 f2 f3 : Bytes) (m set r : ℕ) (em : m ≡ countOf b) (es : set ≡ setOf t)
+    (er : Sought b (keyIn set f0 t f1) r) where
   abbrev X : Row
   X = makeRow t f0 f1 f2 f3
 
-  taken-is : Ordered b → keyTaken b X ≡ ltb r m
-  taken-is q = ap (λ (n : ℕ). held (lookup rowKey (keyIn n f0 t f1) (rowsOf b))) (sym es) ∙ held-is b (keyIn set f0 t f1) r m er em q
+  abbrev full : ℕ
+  full = when (noRowRoom b (setOf t) limit (rowSize X)) 15
 
-  pub weighed-taken : r < m → Weighed b limit X 10
+  taken-is : Ordered b → (y : Bool) → ltb r m ≡ y → keyTaken b X ≡ y
+  taken-is q y e =
+      ap (λ (n : ℕ). held (lookup rowKey (keyIn n f0 t f1) (rowsOf b))) (sym es) ∙ held-is b (keyIn set f0 t f1) r m er em q ∙ e
+
+  pub weighed-taken : r < m → Weighed b own limit X 10
   weighed-taken l = record {
-    taken = λ _ _. refl;
-    full = λ q h _. absurd (true≢false (sym (taken-is q ∙ lt-ltb r m l) ∙ h));
-    clear = λ q h _ _. absurd (true≢false (sym (taken-is q ∙ lt-ltb r m l) ∙ h));
+    is = λ q.
+        sym (ap (λ (y : Bool). first (when y 10 ∷ own ∷ full ∷ [])) (taken-is q true (lt-ltb r m l))
+        ∙ first-met 10 (own ∷ full ∷ []) (λ e. omega arith));
     room = λ z. absurd (omega arith);
-    free = λ z _. absurd (omega arith);
     numbered = numbered 10 (omega arith) (omega arith);
   }
 
   module _ (l : m ≤ r) where
-    untaken : Ordered b → keyTaken b X ≡ false
-    untaken q = taken-is q ∙ le-ltb r m l
+    untaken : Ordered b → rowRefusal b own limit X ≡ first (own ∷ full ∷ [])
+    untaken q =
+        ap (λ (y : Bool). first (when y 10 ∷ own ∷ full ∷ [])) (taken-is q false (le-ltb r m l)) ∙ first-unmet 0 (own ∷ full ∷ []) refl
 
-    -- 15, where there is no room or no slot
-    fifteen : (Ordered b → noRowRoom b limit X ≡ false → countOf b < slotCount → ⊥) → Weighed b limit X 15
-    fifteen f = record {
-      taken = λ q h. absurd (true≢false (sym h ∙ untaken q));
-      full = λ _ _ _. refl;
-      clear = λ q _ g s. absurd (f q g s);
-      room = λ z. absurd (omega arith);
-      free = λ z _. absurd (omega arith);
-      numbered = numbered 15 (omega arith) (omega arith);
-    }
+    pub weighed-own : (own ≡ 0 → ⊥) → Numbered own → Weighed b own limit X own
+    weighed-own z n = record { is = λ q. sym (untaken q ∙ first-met own (full ∷ []) z); room = λ e. absurd (z e); numbered = n }
 
-    module _ (n : ℕ) (en : RowsCounted b set n) where
-      room-is : Ordered b → noRowRoom b limit X ≡ (leb limit n || ltb (capOf b) (usedOf b + rowSize X))
-      room-is q = ap (λ (c : ℕ). leb limit c || ltb (capOf b) (usedOf b + rowSize X)) (ap (λ (j : ℕ). rowCount j (rowsOf b)) (sym es) ∙ sym (en .is q))
+    module _ (z : own ≡ 0) (w : Bool) (ew : Roomy b set limit (rowSize X) w) where
+      weighed-is : Ordered b → (y : Bool) → w ≡ y → rowRefusal b own limit X ≡ when (not y) 15
+      weighed-is q y e =
+          untaken q ∙ first-unmet own (full ∷ []) z ∙ first-one full
+          ∙ ap (λ (n : ℕ). when (noRowRoom b n limit (rowSize X)) 15) (sym es)
+          ∙ ap (λ (c : Bool). when c 15) (sym (ew .is q)) ∙ ap (λ (v : Bool). when (not v) 15) e
 
-      pub weighed-many : limit ≤ n → Weighed b limit X 15
-      weighed-many g = fifteen (λ q f _. true≢false (rw (room-is q, le-leb limit n g) at f))
+      pub weighed-clear : w ≡ true → Weighed b own limit X 0
+      weighed-clear e = record { is = λ q. sym (weighed-is q true e); room = λ _. ew .room e; numbered = zero-numbered }
 
-      module _ (g : n < limit) where
-        pub weighed-slots : slotCount ≤ m → Weighed b limit X 15
-        weighed-slots h = fifteen (λ q f s. omega arith)
-
-        module _ (h : m < slotCount) (f : ℕ) (ef : f + usedOf b ≡ capOf b) (z : Bool) (ez : z ≡ leb (rowSize X) f) where
-          pub weighed-over : z ≡ false → Weighed b limit X 15
-          weighed-over e =
-              let o = leb-false (rowSize X) f (sym ez ∙ e) in
-              fifteen (λ q y _. true≢false (rw (room-is q, lt-leb limit n g, lt-ltb (capOf b) (usedOf b + rowSize X) (omega arith)) at y))
-
-          pub weighed-clear : z ≡ true → Weighed b limit X 0
-          weighed-clear e =
-              let o = leb-true (rowSize X) f (sym ez ∙ e) in
-              record {
-                taken = λ q y. absurd (true≢false (sym y ∙ untaken q));
-                full = λ q _ y. absurd (true≢false (sym y ∙ room-is q ∙ rw (lt-leb limit n g, le-ltb (capOf b) (usedOf b + rowSize X) (omega arith))));
-                clear = λ _ _ _ _. refl;
-                room = λ _. (omega arith, omega arith);
-                free = λ _ q. untaken q;
-                numbered = zero-numbered;
-              }
+      pub weighed-full : w ≡ false → Weighed b own limit X 15
+      weighed-full e = record {
+        is = λ q. sym (weighed-is q false e);
+        room = λ y. absurd (omega arith);
+        numbered = numbered 15 (omega arith) (omega arith);
+      }
 
 -- the row put in
-module _ (b : List ℕ) (limit t : ℕ) (f0 f1 f2 f3 : Bytes) (k : ℕ) (w : Weighed b limit (makeRow t f0 f1 f2 f3) k) where
-  pub entered-refused : (k ≡ 0 → ⊥) → Entered b limit (makeRow t f0 f1 f2 f3) (ofDid (Refused k)) b
+module _ (b : List ℕ) (own limit t : ℕ) (f0 f1 f2 f3 : Bytes) (k : ℕ) (w : Weighed b own limit (makeRow t f0 f1 f2 f3) k) where
+  pub entered-refused : (k ≡ 0 → ⊥) → Entered b own limit (makeRow t f0 f1 f2 f3) (ofDid (Refused k)) b
   entered-refused z = rw (refusing-is k z (refused k)) (record {
     kept = λ _. (refl, refl);
     numbered = w .numbered;
-    taken = λ q h. ap refused (w .taken q h);
-    full = λ q h f. ap refused (w .full q h f);
-    made = λ q h f s. absurd (z (w .clear q h f s));
+    stopped = λ q _. ap refused (w .is q);
+    made = λ q e. absurd (z (w .is q ∙ e));
   })
 
   module _ (z : k ≡ 0) (set r : ℕ) (es : set ≡ setOf t) (eb : Bounded b (keyIn set f0 t f1) r) where
@@ -218,8 +236,10 @@ module _ (b : List ℕ) (limit t : ℕ) (f0 f1 f2 f3 : Bytes) (k : ℕ) (w : Wei
     inserted-is q x o =
         let X = makeRow t f0 f1 f2 f3 in
         let K = rowKey X in
+        let free : keyTaken b X ≡ false = unmet (keyTaken b X) 10 (omega arith) (all-none _ (sym (w .is o) ∙ z) .0) in
         let e : r ≡ place rowKey K (rowsOf b) =
-        eb .is o ∙ ap (λ (n : ℕ). bound rowKey (keyIn n f0 t f1) (rowsOf b)) es ∙ bound-place rowKey K (rowsOf b) (absent rowKey K (rowsOf b) (w .free z o)) in
+        eb .is o ∙ ap (λ (n : ℕ). bound rowKey (keyIn n f0 t f1) (rowsOf b)) es
+        ∙ bound-place rowKey K (rowsOf b) (absent rowKey K (rowsOf b) free) in
         record {
           sound = x .sound;
           rows = x .rows ∙ ap (λ (i : ℕ). take i (rowsOf b) ++ (X ∷ drop i (rowsOf b))) e ∙ sym (insert-at rowKey X (rowsOf b));
@@ -227,13 +247,13 @@ module _ (b : List ℕ) (limit t : ℕ) (f0 f1 f2 f3 : Bytes) (k : ℕ) (w : Wei
           format = x .format;
         }
 
-    pub entered-made : (q : List ℕ) → (Sound b → Inserted b q r (makeRow t f0 f1 f2 f3)) → Entered b limit (makeRow t f0 f1 f2 f3) done q
+    pub entered-made : (q : List ℕ) → (Sound b → Inserted b q r (makeRow t f0 f1 f2 f3)) →
+        Entered b own limit (makeRow t f0 f1 f2 f3) done q
     entered-made q ins = record {
       kept = λ y. absurd (y refl);
       numbered = zero-numbered;
-      taken = λ o h. absurd (true≢false (sym h ∙ w .free z o));
-      full = λ o h f. absurd (omega (arith, w .full o h f));
-      made = λ o _ _ _. (refl, inserted-is q (ins (o .sound)) o);
+      stopped = λ o y. absurd (y (sym (w .is o) ∙ z));
+      made = λ o _. (refl, inserted-is q (ins (o .sound)) o);
     }
 
 pub set-le : (t : ℕ) → setOf t ≤ 3

@@ -72,7 +72,8 @@ length-rows S =
     rw (length-append, length-append, length-append, length-map (S .items) itemRow, length-map (S .defaults) defaultRow,
     length-map (S .overrides) overrideRow, length-map (S .relationships) relationshipRow)
 
-pub free-slot : (S : State) → Good S → length (S .items) + length (S .defaults) + length (S .overrides) + length (S .relationships) < slotCount →
+pub free-slot : (S : State) → Good S →
+    length (S .items) + length (S .defaults) + length (S .overrides) + length (S .relationships) < slotCount →
     length (rowsFor S) < slotCount
 free-slot S g h = omega (arith, length-rows S)
 
@@ -102,7 +103,8 @@ module _ (S : State) where
       each-append (λ (r : Row). n < setOf (r .tag)) O R (rows-above overrideRows override-row-set S n (omega arith))
       (rows-above relationshipRows relationship-row-set S n (omega arith))
 
-  pub after-items : (n : ℕ) (l : List Row) → 0 < n → Each (λ (r : Row). setOf (r .tag) < n) l → Each (λ (r : Row). setOf (r .tag) < n) (I ++ l)
+  pub after-items : (n : ℕ) (l : List Row) → 0 < n → Each (λ (r : Row). setOf (r .tag) < n) l →
+      Each (λ (r : Row). setOf (r .tag) < n) (I ++ l)
   after-items n l h e = each-append (λ (r : Row). setOf (r .tag) < n) I l (rows-below itemRows item-row-set S n h) e
 
 unfoldable pub item-rows : RowLawful itemRows

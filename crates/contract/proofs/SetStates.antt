@@ -6,26 +6,25 @@ use mathlib.Core.Bool.{Bool, true, false, not, _||_}
 use mathlib.Core.List.{List, [], _∷_}
 use mathlib.Core.Option.{Option, none, some}
 use native.Mathlib.Omega.{arith}
-use lib.Dec.{leb, ltb}
+use lib.Dec.{leb, ltb, eqb}
 use lib.ListN.{length}
-use borrow.Author.Tests.{leb-false}
+use borrow.Author.Tests.{leb-false, lt-leb, eqb-true, eqb-false}
 use Rattle.output.specs.Answers.{Answer}
 use Rattle.model.specs.Sets.{Key, held, lookup, insert, remove}
 use Rattle.model.specs.Fields.{when, first}
 use Rattle.model.specs.Package.{State, charge}
 use Rattle.model.specs.Calls.{Change, done, refused, changed, noRoom, change, changeRefusal, changeMade, putIn, takenOut}
-use Rattle.base.proofs.Bools.{or-false-left}
 use Rattle.store.specs.Layout.{countOf, usedOf, slotCount}
 use Rattle.store.specs.Rows.{Row, rowSize, rowsOf}
 use Rattle.contract.specs.Rows.{setOf, setKey, rowKey, RowKind, rowsFor}
 use Rattle.contract.specs.Holds.{Lies, Holds}
 use Rattle.contract.specs.Searches.{Ordered}
-use Rattle.contract.specs.Entries.{rowCount, keyTaken, noRowRoom, Became, Entered, Dropped}
+use Rattle.contract.specs.Entries.{rowCount, keyTaken, noRowRoom, Became, Entered, Dropped, rowRefusal}
+use Rattle.contract.proofs.RowKinds.{RowLawful}
 use Rattle.contract.proofs.RowOrders.{holds-ordered}
 use Rattle.contract.proofs.RowCharges.{used-charge, count-rows}
 use Rattle.contract.proofs.Rans.{changed-refused}
 use Rattle.model.proofs.Refusals.{changed-done}
-use Rattle.contract.proofs.RowKinds.{RowLawful}
 use Rattle.contract.proofs.SetRows.{rowFor, set-lookup, set-remove, set-insert, set-count}
 
 module _ (b : List ℕ) (S : State) (h : Holds b S) (c : Change) (a : Answer) (q : List ℕ) where
@@ -92,8 +91,8 @@ module _ {E : Type 0} (K : RowKind E) (L : RowLawful K) (b : List ℕ) (S : Stat
           (lies-in b S h c a q (takenOut (K .kind) S k) (remove rowKey (setKey (K .set) k) (rowsOf b)) (m .1)
           (ap (remove rowKey (setKey (K .set) k)) (h .lies .rows) ∙ set-remove K L k S) (L .lawful .capacity S _))
 
-  -- a put of the entry e
-  module _ (c : Change) (e : E) (a : Answer) (q : List ℕ) (w : Entered b (K .kind .limit) (K .row e) a q) where
+  -- a put of the entry e, where the call's own test gives the number own
+  module _ (c : Change) (e : E) (own : ℕ) (a : Answer) (q : List ℕ) (w : Entered b own (K .kind .limit) (K .row e) a q) where
     abbrev full : Bool
     full = noRoom (K .kind .limit) (length xs) (K .kind .charge e) S
 
@@ -103,36 +102,37 @@ module _ {E : Type 0} (K : RowKind E) (L : RowLawful K) (b : List ℕ) (S : Stat
     count-is : rowCount (setOf (K .row e .tag)) (rowsOf b) ≡ length xs
     count-is = ap₂ rowCount (L .placed e) (h .lies .rows) ∙ set-count K L S
 
-    room-is : noRowRoom b (K .kind .limit) (K .row e) ≡ full
-    room-is =
-        ap₂ (λ (j C : ℕ). leb (K .kind .limit) j || ltb C (usedOf b + rowSize (K .row e))) count-is (h .lies .capacity)
-        ∙ ap₂ (λ (u s : ℕ). leb (K .kind .limit) (length xs) || ltb (S .capacity) (u + s)) (used-charge b S h) (L .sized e)
-
     -- a set that is not full leaves a slot
-    slotted : full ≡ false → countOf b < slotCount
-    slotted f =
-        let l = leb-false (K .kind .limit) (length xs)
-        (or-false-left (leb (K .kind .limit) (length xs)) (ltb (S .capacity) (charge S + K .kind .charge e)) f) in
-        subst (λ (i : ℕ). i < slotCount) (sym (count-rows b S h)) (L .slot S (h .good) l)
+    room-is : noRowRoom b (setOf (K .row e .tag)) (K .kind .limit) (rowSize (K .row e)) ≡ full
+    room-is =
+        ap₂ (λ (j C : ℕ). leb (K .kind .limit) j || leb slotCount (countOf b) || ltb C (usedOf b + rowSize (K .row e))) count-is
+        (h .lies .capacity)
+        ∙ ap₂ (λ (u s : ℕ). leb (K .kind .limit) (length xs) || leb slotCount (countOf b) || ltb (S .capacity) (u + s))
+        (used-charge b S h) (L .sized e)
+        ∙ go (leb (K .kind .limit) (length xs)) refl (ltb (S .capacity) (charge S + K .kind .charge e))
+      where
+        go : (y : Bool) → leb (K .kind .limit) (length xs) ≡ y → (z : Bool) → (y || leb slotCount (countOf b) || z) ≡ (y || z)
+        go true f z = refl
+        go false f z =
+            let l = L .slot S (h .good) (leb-false (K .kind .limit) (length xs) f) in
+            rw (lt-leb slotCount (countOf b) (omega (arith, count-rows b S h)))
 
-    module _ (ek : changeRefusal S c ≡ first (when (held (lookup key (key e) xs)) 10 ∷ when full 15 ∷ []))
-        (em : changeMade S c ≡ putIn (K .kind) S e) where
-      refusal-is : (t f : Bool) → held (lookup key (key e) xs) ≡ t → full ≡ f → changeRefusal S c ≡ first (when t 10 ∷ when f 15 ∷ [])
-      refusal-is t f et ef = ek ∙ ap₂ (λ (t f : Bool). first (when t 10 ∷ when f 15 ∷ [])) et ef
+    refusal-is : rowRefusal b own (K .kind .limit) (K .row e) ≡ first (when (held (lookup key (key e) xs)) 10 ∷ own ∷ when full 15 ∷ [])
+    refusal-is = ap₂ (λ (t f : Bool). first (when t 10 ∷ own ∷ when f 15 ∷ [])) taken-is room-is
 
-      pub put-step : (a ≡ change S c .0) × Lies q (change S c .1)
-      unfolding first
-      put-step = go (held (lookup key (key e) xs)) full refl refl
-        where
-          go : (t f : Bool) → held (lookup key (key e) xs) ≡ t → full ≡ f → (a ≡ change S c .0) × Lies q (change S c .1)
-          go true f et ef =
-              let m = w .taken ordered (taken-is ∙ et) in
-              refused-step b S h c a q 10 m (refusal-is true f et ef) (λ z. omega arith) (w .kept (nonzero a 10 (omega arith) m) .0)
-          go false true et ef =
-              let m = w .full ordered (taken-is ∙ et) (room-is ∙ ef) in
-              refused-step b S h c a q 15 m (refusal-is false true et ef) (λ z. omega arith) (w .kept (nonzero a 15 (omega arith) m) .0)
-          go false false et ef =
-              let m = w .made ordered (taken-is ∙ et) (room-is ∙ ef) (slotted ef) in
-              made-step b S h c a q (putIn (K .kind) S e) (m .0) (refusal-is false false et ef) em
-              (lies-in b S h c a q (putIn (K .kind) S e) (insert rowKey (K .row e) (rowsOf b)) (m .1)
-              (ap (insert rowKey (K .row e)) (h .lies .rows) ∙ set-insert K L e S) (L .lawful .capacity S _))
+    pub put-step : changeRefusal S c ≡ first (when (held (lookup key (key e) xs)) 10 ∷ own ∷ when full 15 ∷ []) →
+        changeMade S c ≡ putIn (K .kind) S e → (a ≡ change S c .0) × Lies q (change S c .1)
+    put-step ek em = go (eqb (rowRefusal b own (K .kind .limit) (K .row e)) 0) refl
+      where
+        go : (t : Bool) → eqb (rowRefusal b own (K .kind .limit) (K .row e)) 0 ≡ t → (a ≡ change S c .0) × Lies q (change S c .1)
+        go false y =
+            let z = eqb-false (rowRefusal b own (K .kind .limit) (K .row e)) 0 y in
+            let m = w .stopped ordered z in
+            refused-step b S h c a q (rowRefusal b own (K .kind .limit) (K .row e)) m (ek ∙ sym refusal-is) z
+            (w .kept (λ x. z (sym (ap (λ (x : Answer). x .number) m) ∙ x)) .0)
+        go true y =
+            let z = eqb-true (rowRefusal b own (K .kind .limit) (K .row e)) 0 y in
+            let m = w .made ordered z in
+            made-step b S h c a q (putIn (K .kind) S e) (m .0) (ek ∙ sym refusal-is ∙ z) em
+            (lies-in b S h c a q (putIn (K .kind) S e) (insert rowKey (K .row e) (rowsOf b)) (m .1)
+            (ap (insert rowKey (K .row e)) (h .lies .rows) ∙ set-insert K L e S) (L .lawful .capacity S _))

@@ -1,12 +1,13 @@
--- What the functions that put in and take out the row of a Default, an Override or a relationship do. These are promises of inner functions.
+-- What the functions that put in and take out the row of an entry do. These are promises of inner functions.
 -- Assumes nothing.
 use Prim.Native.Nat.{ℕ, suc, _+_, _-_, _≤_, _<_}
 use mathlib.Core.Path.{_≡_}
-use mathlib.Core.Bool.{Bool, true, false, _||_}
-use mathlib.Core.List.{List, []}
+use mathlib.Core.Bool.{Bool, true, false, not, _||_}
+use mathlib.Core.List.{List, [], _∷_}
 use lib.Dec.{leb, ltb}
 use Rattle.output.specs.Answers.{Answer}
 use Rattle.model.specs.Sets.{Key, held, lookup, insert, remove}
+use Rattle.model.specs.Fields.{when, first}
 use Rattle.model.specs.Places.{bound, spot}
 use Rattle.model.specs.Calls.{done, refused, Numbered}
 use Rattle.store.specs.Layout.{formatOf, capOf, countOf, usedOf, slotCount}
@@ -31,17 +32,22 @@ pub record RowsCounted (b : List ℕ) (n r : ℕ) : Type 0 where
 abbrev pub keyTaken : List ℕ → Row → Bool
 keyTaken b x = held (lookup rowKey (rowKey x) (rowsOf b))
 
--- the set of x has as many rows as its limit, or the bytes of x pass the capacity
-abbrev pub noRowRoom : List ℕ → ℕ → Row → Bool
-noRowRoom b limit x = leb limit (rowCount (setOf (x .tag)) (rowsOf b)) || ltb (capOf b) (usedOf b + rowSize x)
+-- the set has as many rows as its limit, no slot is free, or n bytes more pass the capacity
+abbrev pub noRowRoom : List ℕ → ℕ → ℕ → ℕ → Bool
+noRowRoom b set limit n = leb limit (rowCount set (rowsOf b)) || leb slotCount (countOf b) || ltb (capOf b) (usedOf b + n)
 
--- k is the refusal of a new row x by the rows of b: 10, 15, 0 for none
-pub record Weighed (b : List ℕ) (limit : ℕ) (x : Row) (k : ℕ) : Type 0 where
-  pub taken : Ordered b → keyTaken b x ≡ true → k ≡ 10
-  pub full : Ordered b → keyTaken b x ≡ false → noRowRoom b limit x ≡ true → k ≡ 15
-  pub clear : Ordered b → keyTaken b x ≡ false → noRowRoom b limit x ≡ false → countOf b < slotCount → k ≡ 0
+-- z tells whether there is room for a row of n bytes in the set
+pub record Roomy (b : List ℕ) (set limit n : ℕ) (z : Bool) : Type 0 where
+  pub is : Ordered b → not z ≡ noRowRoom b set limit n
+  pub room : z ≡ true → (countOf b < slotCount) × (usedOf b + n ≤ capOf b)
+
+-- the refusal of a new row x by the rows of b: 10, own, which is that of the call's own test, 15, 0 for none
+abbrev pub rowRefusal : List ℕ → ℕ → ℕ → Row → ℕ
+rowRefusal b own limit x = first (when (keyTaken b x) 10 ∷ own ∷ when (noRowRoom b (setOf (x .tag)) limit (rowSize x)) 15 ∷ [])
+
+pub record Weighed (b : List ℕ) (own limit : ℕ) (x : Row) (k : ℕ) : Type 0 where
+  pub is : Ordered b → k ≡ rowRefusal b own limit x
   pub room : k ≡ 0 → (countOf b < slotCount) × (usedOf b + rowSize x ≤ capOf b)
-  pub free : k ≡ 0 → Ordered b → keyTaken b x ≡ false
   pub numbered : Numbered k
 
 -- q has the rows rs in the place of those of b, with the same capacity and format
@@ -52,12 +58,11 @@ pub record Became (b q : List ℕ) (rs : List Row) : Type 0 where
   pub format : formatOf q ≡ formatOf b
 
 -- a is the answer to a new row x, and q the buffer after it
-pub record Entered (b : List ℕ) (limit : ℕ) (x : Row) (a : Answer) (q : List ℕ) : Type 0 where
+pub record Entered (b : List ℕ) (own limit : ℕ) (x : Row) (a : Answer) (q : List ℕ) : Type 0 where
   pub kept : (a .number ≡ 0 → ⊥) → (q ≡ b) × (a .output ≡ [])
   pub numbered : Numbered (a .number)
-  pub taken : Ordered b → keyTaken b x ≡ true → a ≡ refused 10
-  pub full : Ordered b → keyTaken b x ≡ false → noRowRoom b limit x ≡ true → a ≡ refused 15
-  pub made : Ordered b → keyTaken b x ≡ false → noRowRoom b limit x ≡ false → countOf b < slotCount → (a ≡ done) × Became b q (insert rowKey x (rowsOf b))
+  pub stopped : Ordered b → (rowRefusal b own limit x ≡ 0 → ⊥) → a ≡ refused (rowRefusal b own limit x)
+  pub made : Ordered b → rowRefusal b own limit x ≡ 0 → (a ≡ done) × Became b q (insert rowKey x (rowsOf b))
 
 -- a is the answer to a drop of the row of the key k, and q the buffer after it
 pub record Dropped (b : List ℕ) (k : Key) (a : Answer) (q : List ℕ) : Type 0 where

@@ -1,4 +1,4 @@
-// The rows of Defaults, Overrides and relationships: found by their key, put in, taken out.
+// The rows of entries: found by their key, put in, taken out.
 use crate::answers::Did;
 use crate::search::bound;
 use crate::search::has_key;
@@ -13,12 +13,13 @@ ghost use mathlib.Core.Path.{_≡_};
 ghost use Prim.Native.Nat.{_+_, _^_, _≤_, _<_};
 ghost use lib.Dec.{leb};
 ghost use lib.ListN.{length};
+ghost use Rattle.model.specs.Calls.{Numbered};
 ghost use Rattle.store.specs.Rows.{makeRow};
 ghost use Rattle.store.specs.Packages.{Shape};
 ghost use Rattle.contract.specs.Rows.{setOf, keyIn};
 ghost use Rattle.contract.specs.Searches.{Bounded};
 ghost use Rattle.contract.specs.Answers.{ofDid};
-ghost use Rattle.contract.specs.Entries.{Sought, RowsCounted, Weighed, Entered, Dropped};
+ghost use Rattle.contract.specs.Entries.{Sought, RowsCounted, Roomy, Weighed, Entered, Dropped};
 
 // r, where that row has the key; the number of rows if it has not. No row before r and no row behind it has the key.
 fn hit(pkg: &[u8], r: usize, set: usize, p: &[u8], t: usize, id: &[u8]) -> usize
@@ -75,10 +76,33 @@ fn has_room(room: usize, a: usize, b: usize, c: usize, d: usize) -> bool
     d <= y - c
 }
 
-// The refusal of a new row, which would be row r of a set: 10, 15 or 0.
+// Whether there is room for a row with four fields of these lengths: the set is not full, a slot is free, the bytes fit.
+fn has_row_room(
+    pkg: &[u8],
+    set: usize,
+    limit: usize,
+    a: usize,
+    b: usize,
+    c: usize,
+    d: usize,
+) -> bool
+    requires { ⌜ Shape (now pkg) × (set ≤ 3) ⌝ }
+    ensures { λ r. ⌜ Roomy (now (pkg .entry)) set limit (a + (b + (c + d))) r ⌝ }
+{
+    if limit <= row_count(pkg, set) {
+        return false;
+    }
+    if SLOT_COUNT <= count(pkg) {
+        return false;
+    }
+    has_room(free(pkg), a, b, c, d)
+}
+
+// The refusal of a new row, which would be row r of a set: 10, the number of the call's own test, 15, or 0.
 fn row_refusal(
     pkg: &[u8],
     r: usize,
+    own: u8,
     set: usize,
     limit: usize,
     t: usize,
@@ -89,27 +113,52 @@ fn row_refusal(
 ) -> u8
     requires { ⌜ Shape (now pkg) × (set ≡ setOf t) ⌝ }
     requires { ⌜ Bounded (now pkg) (keyIn set (now f0) t (now f1)) r ⌝ }
-    ensures { λ k. ⌜ Weighed (now (pkg .entry)) limit (makeRow t (now (f0 .entry)) (now (f1 .entry)) (now (f2 .entry)) (now (f3 .entry))) k ⌝ }
+    requires { ⌜ Numbered own ⌝ }
+    ensures { λ k. ⌜ Weighed (now (pkg .entry)) own limit (makeRow t (now (f0 .entry)) (now (f1 .entry)) (now (f2 .entry)) (now (f3 .entry))) k ⌝ }
 {
-    let m = count(pkg);
-    if hit(pkg, r, set, f0, t, f1) < m {
+    if hit(pkg, r, set, f0, t, f1) < count(pkg) {
         return 10;
     }
-    if limit <= row_count(pkg, set) {
-        return 15;
+    if own != 0 {
+        return own;
     }
-    if SLOT_COUNT <= m {
-        return 15;
-    }
-    if has_room(free(pkg), f0.len(), f1.len(), f2.len(), f3.len()) {
+    if has_row_room(pkg, set, limit, f0.len(), f1.len(), f2.len(), f3.len()) {
         return 0;
     }
     15
 }
 
-// Puts in a row, unless its key is taken or there is no room for it.
+// Puts in a row, which becomes row r, unless its key is taken, the call's own test refuses it by the number own, or there is no room for it.
+pub fn put_at(
+    pkg: &mut [u8],
+    r: usize,
+    own: u8,
+    set: usize,
+    limit: usize,
+    t: usize,
+    f0: &[u8],
+    f1: &[u8],
+    f2: &[u8],
+    f3: &[u8],
+) -> Did
+    requires { ⌜ Shape (now pkg) × (set ≡ setOf t) ⌝ }
+    requires { ⌜ Bounded (now pkg) (keyIn set (now f0) t (now f1)) r ⌝ }
+    requires { ⌜ Numbered own ⌝ }
+    requires { ⌜ (0 < length (now f0)) × (t < 2 ^ 32) ⌝ }
+    ensures { λ r. ⌜ Entered (now (pkg .entry)) own limit (makeRow t (now (f0 .entry)) (now (f1 .entry)) (now (f2 .entry)) (now (f3 .entry))) (ofDid r) (now (pkg .exit)) ⌝ }
+{
+    let k = row_refusal(pkg, r, own, set, limit, t, f0, f1, f2, f3);
+    if k != 0 {
+        return Did::Refused(k);
+    }
+    insert(pkg, r, t, f0, f1, f2, f3);
+    Did::Done
+}
+
+// The same where the row's place is still to be found.
 pub fn put_row(
     pkg: &mut [u8],
+    own: u8,
     limit: usize,
     t: usize,
     f0: &[u8],
@@ -118,17 +167,13 @@ pub fn put_row(
     f3: &[u8],
 ) -> Did
     requires { ⌜ Shape (now pkg) ⌝ }
+    requires { ⌜ Numbered own ⌝ }
     requires { ⌜ (0 < length (now f0)) × (t < 2 ^ 32) ⌝ }
-    ensures { λ r. ⌜ Entered (now (pkg .entry)) limit (makeRow t (now (f0 .entry)) (now (f1 .entry)) (now (f2 .entry)) (now (f3 .entry))) (ofDid r) (now (pkg .exit)) ⌝ }
+    ensures { λ r. ⌜ Entered (now (pkg .entry)) own limit (makeRow t (now (f0 .entry)) (now (f1 .entry)) (now (f2 .entry)) (now (f3 .entry))) (ofDid r) (now (pkg .exit)) ⌝ }
 {
     let set = set_of(t);
     let r = bound(pkg, set, f0, t, f1);
-    let k = row_refusal(pkg, r, set, limit, t, f0, f1, f2, f3);
-    if k != 0 {
-        return Did::Refused(k);
-    }
-    insert(pkg, r, t, f0, f1, f2, f3);
-    Did::Done
+    put_at(pkg, r, own, set, limit, t, f0, f1, f2, f3)
 }
 
 // Takes out the row of a key.

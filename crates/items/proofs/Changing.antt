@@ -1,47 +1,45 @@
 -- Put and drop of an item: each way out.
 -- Assumes nothing.
 use Prim.Native.Nat.{ℕ, _+_, _-_, _^_, _≤_, _<_}
-use mathlib.Core.Path.{_≡_, refl, ap, ap₂, sym, _∙_, subst}
-use mathlib.Core.Bool.{false}
-use mathlib.Core.List.{[], _∷_, _++_, map}
+use mathlib.Core.Path.{_≡_, refl, ap, sym, _∙_, subst}
+use mathlib.Core.List.{[], _++_, map}
 use mathlib.Core.Option.{none, some}
 use native.Mathlib.Nat.{zero-add}
 use native.Mathlib.Omega.{arith}
-use lib.ListN.{length, getD, take, drop, length-take, length-drop}
+use lib.ListN.{length, getD, take, drop}
 use borrow.Author.Tests.{ne-eqb}
 use Rattle.chars.specs.Bytes.{within}
 use Rattle.base.proofs.Lists.{take-rest}
-use Rattle.output.proofs.Answering.{refusing-is}
-use Rattle.model.specs.Sets.{Bytes, insert, remove, held, lookup}
+use Rattle.model.specs.Sets.{Bytes, remove}
 use Rattle.model.specs.Places.{place, spot}
 use Rattle.model.specs.Fields.{first, prefixOf, suffixOf, itemField}
 use Rattle.model.specs.Package.{State, Item, itemKey, keyOfItem, itemAt}
-use Rattle.model.specs.Calls.{Changes, PutItem, DropItem, done, refused, changed, change, withItems, putItemRefusal, dropItemRefusal}
+use Rattle.model.specs.Calls.{Changes, PutItem, DropItem, done, refused, changed, change, withItems, putItemRefusal, dropItemRefusal, misfits}
+use Rattle.names.proofs.Lengths.{part-name-size}
+use Rattle.output.specs.Answers.{Answer}
 use Rattle.model.proofs.Numbers.{numbered}
-use Rattle.model.proofs.Rows.{rows-insert, rows-remove}
+use Rattle.model.proofs.Rows.{rows-remove}
 use Rattle.model.proofs.ItemNames.{accepted-prefix}
-use Rattle.model.proofs.Refusals.{all-none, unmet, changed-done}
-use Rattle.model.proofs.Sets.{absent}
-use Rattle.model.proofs.Places.{bound-place}
+use Rattle.model.proofs.Refusals.{changed-done}
 use Rattle.store.specs.Layout.{countOf}
-use Rattle.store.specs.Rows.{makeRow, insertAt, removeAt}
-use Rattle.store.specs.Packages.{Sound, Room, Inserted, Removed}
-use Rattle.contract.specs.Rows.{tagOf, itemRow, otherRows, rowsFor, keyIn}
+use Rattle.store.specs.Rows.{Row, makeRow, removeAt}
+use Rattle.store.specs.Packages.{Sound, Removed}
+use Rattle.contract.specs.Rows.{tagOf, setOf, itemRow, otherRows, rowsFor, itemRows}
 use Rattle.contract.specs.Answers.{ofDid}
 use Rattle.contract.specs.declared.answers.Did.the-variants as did
 use Rattle.contract.specs.Holds.{Lies, Holds}
 use Rattle.contract.specs.Ran.{Ran}
 use Rattle.contract.specs.Opening.{Open}
-use Rattle.contract.specs.Searches.{Bounded}
-use Rattle.contract.proofs.RowKeys.{tag-small}
+use Rattle.contract.proofs.RowKeys.{tag-small, tag-set}
 use Rattle.contract.proofs.Rans.{field-refused, change-refused, change-made, changed-refused}
+use Rattle.contract.specs.Entries.{Entered}
+use Rattle.contract.proofs.RowKinds.{item-rows}
+use Rattle.contract.proofs.SetCalls.{Putting, put-refused as set-put-refused, put-ran as set-put}
 use Rattle.items.specs.Wants.{wanted, Located}
-use Rattle.items.specs.Clashes.{Cleared}
+use Rattle.items.specs.Clashes.{Misfitting}
 use Rattle.items.specs.declared.wanted.Wanted.{Wanted}
 use Rattle.items.specs.declared.wanted.Wanted.the-variants.{Named, Refused}
-use Rattle.items.proofs.Naming.{wanted-named, wanted-refused, prefix-take, prefix-in}
-use Rattle.items.proofs.Locating.{bound-of}
-use Rattle.names.proofs.Lengths.{name-some}
+use Rattle.items.proofs.Naming.{wanted-named, wanted-refused, prefix-take}
 
 -- DROP
 drop-named : (S : State) (s : Bytes) (k : ℕ) → itemField s ≡ k → (k ≡ 0 → ⊥) → dropItemRefusal S s ≡ k
@@ -73,38 +71,13 @@ removed-rows S s r e l =
     sym (rows-remove keyOfItem itemRow [] (otherRows S) (itemKey s) (S .items) (subst (λ (i : ℕ). i < length (S .items)) e l)
     ∙ ap (λ (i : ℕ). take i (map itemRow (S .items) ++ otherRows S) ++ drop (i + 1) (map itemRow (S .items) ++ otherRows S)) z)
 
--- PUT
-put-no : (S : State) (s bytes : Bytes) (k : ℕ) → putItemRefusal S s bytes ≡ k → (k ≡ 0 → ⊥) → change S (PutItem s bytes) ≡ (refused k, S)
-unfolding change
-put-no S s bytes k e z =
-    let T = withItems S (insert keyOfItem (record { name = s; bytes = bytes }) (S .items)) in
-    ap (λ (n : ℕ). changed n S T) e ∙ changed-refused k S T z
-
-put-yes : (S : State) (s bytes : Bytes) → putItemRefusal S s bytes ≡ 0 → change S (PutItem s bytes) ≡ (done, withItems S (insert keyOfItem (record { name = s; bytes = bytes }) (S .items)))
-unfolding change
-put-yes S s bytes e = changed-done (putItemRefusal S s bytes) S (withItems S (insert keyOfItem (record { name = s; bytes = bytes }) (S .items))) e
-
-put-named : (S : State) (s bytes : Bytes) (k : ℕ) → itemField s ≡ k → (k ≡ 0 → ⊥) → putItemRefusal S s bytes ≡ k
-unfolding putItemRefusal first
-put-named S s bytes k e z = rw (e, ne-eqb k 0 z)
-
--- an accepted put finds its key free
-free-key : (S : State) (s bytes : Bytes) → putItemRefusal S s bytes ≡ 0 → held (lookup keyOfItem (itemKey s) (S .items)) ≡ false
+-- PUT is a put of the items' set, with its own tests
+pub putting : (s bytes : Bytes) → Putting itemRows (PutItem s bytes) (record { name = s; bytes = bytes }) (λ S. misfits s (S .items))
 unfolding putItemRefusal
-free-key S s bytes e = unmet (held (lookup keyOfItem (itemKey s) (S .items))) 10 (omega arith) (all-none _ e .1 .0)
+putting s bytes = record { refusal = λ S. refl; made = λ S. refl }
 
--- the rows with the item's
-inserted-rows : (S : State) (s bytes : Bytes) (r : ℕ) → r ≡ place keyOfItem (itemKey s) (S .items)
-    → insertAt r (itemRow (record { name = s; bytes = bytes })) (rowsFor S) ≡ rowsFor (withItems S (insert keyOfItem (record { name = s; bytes = bytes }) (S .items)))
-unfolding insertAt rowsFor otherRows
-inserted-rows S s bytes r e =
-    let i : Item = record { name = s; bytes = bytes } in
-    let k = place keyOfItem (itemKey s) (S .items) in
-    let z : 0 + k ≡ r = zero-add k ∙ sym e in
-    sym (rows-insert keyOfItem itemRow [] (otherRows S) i (S .items)
-    ∙ ap (λ (j : ℕ). take j (map itemRow (S .items) ++ otherRows S) ++ (itemRow i ∷ drop j (map itemRow (S .items) ++ otherRows S))) z)
-
-made-row : (s bytes : Bytes) (n t : ℕ) → n ≡ length (prefixOf s) → t ≡ tagOf (suffixOf s) → makeRow t (take n s) (take (length s - n) (drop n s)) bytes [] ≡ itemRow (record { name = s; bytes = bytes })
+pub made-row : (s bytes : Bytes) (n t : ℕ) → n ≡ length (prefixOf s) → t ≡ tagOf (suffixOf s) →
+    makeRow t (take n s) (take (length s - n) (drop n s)) bytes [] ≡ itemRow (record { name = s; bytes = bytes })
 unfolding itemRow
 made-row s bytes n t en et = rw (take-rest s n, prefix-take s n en, et, en)
 
@@ -114,10 +87,13 @@ module _ (s : Bytes) (w : Wanted) (ew : w ≡ wanted (itemField s) s) (n t : ℕ
   named-is = wanted-named (itemField s) s w ew n t en
 
   pub named-some : 0 < length (take n s)
-  named-some = rw (prefix-take s n (named-is .0)) (name-some (prefixOf s) (accepted-prefix s (named-is .2) .0))
+  named-some = rw (prefix-take s n (named-is .0)) (omega (arith, part-name-size (prefixOf s) (accepted-prefix s (named-is .2) .0)))
 
   pub named-tag : t < 2 ^ 32
   named-tag = omega (arith, named-is .1, tag-small s)
+
+  pub named-set : 0 ≡ setOf t
+  named-set = sym (tag-set t (omega (arith, named-is .1, tag-small s)))
 
 -- EACH WAY OUT
 module _ (p : Bytes) (ok : Open p) (s : Bytes) (w : Wanted) (ew : w ≡ wanted (itemField s) s) where
@@ -129,7 +105,8 @@ module _ (p : Bytes) (ok : Open p) (s : Bytes) (w : Wanted) (ew : w ≡ wanted (
   pub put-refused : (bytes : Bytes) (k : ℕ) → w ≡ Refused k → Ran (Changes (PutItem s bytes)) p (ofDid (did.Refused k)) p
   put-refused bytes k e =
       let z = wanted-refused (itemField s) s w ew k e in
-      field-refused p ok (PutItem s bytes) k (z .1) (λ S. put-named S s bytes k (z .0) (z .1))
+      set-put-refused itemRows item-rows p ok (PutItem s bytes) k (record { name = s; bytes = bytes }) (λ S. misfits s (S .items))
+      (putting s bytes) (sym (z .0)) (z .1)
 
   module _ (n t : ℕ) (en : w ≡ Named n t) where
     named : (n ≡ length (prefixOf s)) × (t ≡ tagOf (suffixOf s)) × (itemField s ≡ 0)
@@ -158,36 +135,10 @@ module _ (p : Bytes) (ok : Open p) (s : Bytes) (w : Wanted) (ew : w ≡ wanted (
                 },
               )
 
-    module _ (bytes : Bytes) (r k : ℕ) (eb : Bounded p (keyIn 0 (take n s) t []) r) (ek : Cleared p s (length bytes) r k) where
-      pub put-clash : (k ≡ 0 → ⊥) → Ran (Changes (PutItem s bytes)) p (ofDid (did.Refused k)) p
-      put-clash z = rw (refusing-is k z (refused k))
-          (change-refused p ok (PutItem s bytes) k (ek .numbered) (λ S h. put-no S s bytes k (ek .is S bytes h refl) z))
-
-      pub put-room : k ≡ 0 → Room p r (length (take n s) + (length (take (length s - n) (drop n s)) + (length bytes + 0)))
-      put-room z = subst (Room p r) sum (ek .room z)
-        where
-          sum : length s + length bytes ≡ length (take n s) + (length (take (length s - n) (drop n s)) + (length bytes + 0))
-          sum = rw (take-rest s n, length-take, length-drop) (omega (arith, prefix-in s n (named .0)))
-
-      pub put-done : (q : Bytes) → length q ≡ length p → k ≡ 0
-          → (Sound p → Inserted p q r (makeRow t (take n s) (take (length s - n) (drop n s)) bytes [])) → Ran (Changes (PutItem s bytes)) p done q
-      put-done q lq z ins = change-made p ok (PutItem s bytes) q lq (λ S h. out S h)
-        where
-          out : (S : State) → Holds p S → (change S (PutItem s bytes) .0 ≡ done) × Lies q (change S (PutItem s bytes) .1)
-          out S h =
-              let g : putItemRefusal S s bytes ≡ 0 = ek .is S bytes h refl ∙ z in
-              let e = put-yes S s bytes g in
-              let o = ins (h .lies .sound) in
-              let pl : r ≡ place keyOfItem (itemKey s) (S .items) =
-              bound-of p s n t (named .0) (named .1) r (countOf p) refl eb S h
-              ∙ bound-place keyOfItem (itemKey s) (S .items) (absent keyOfItem (itemKey s) (S .items) (free-key S s bytes g)) in
-              rw e (
-                refl,
-                record {
-                  sound = o .sound;
-                  format = o .format ∙ h .lies .format;
-                  rows = o .rows ∙ ap₂ (insertAt r) (made-row s bytes n t (named .0) (named .1)) (h .lies .rows)
-                      ∙ inserted-rows S s bytes r pl;
-                  capacity = o .cap ∙ h .lies .capacity;
-                },
-              )
+    -- k is the refusal of the own tests
+    pub put-ran : (bytes : Bytes) (k : ℕ) → Misfitting p s k → (a : Answer) (q : Bytes) → length q ≡ length p →
+        Entered p k 256 (makeRow t (take n s) (take (length s - n) (drop n s)) bytes []) a q → Ran (Changes (PutItem s bytes)) p a q
+    put-ran bytes k ek a q lq w =
+        set-put itemRows item-rows p ok (PutItem s bytes) 0 (record { name = s; bytes = bytes }) (λ S. misfits s (S .items))
+        (putting s bytes) (sym (named .2)) refl k (ek .is) a q lq
+        (subst (λ (x : Row). Entered p k 256 x a q) (made-row s bytes n t (named .0) (named .1)) w)

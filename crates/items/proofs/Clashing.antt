@@ -1,10 +1,9 @@
--- A new item beside the held ones: 10, 12, 11.
+-- A new item, whose key is free, beside the held ones: 12, 11.
 -- Assumes nothing.
 use Prim.Native.Nat.{ℕ, _-_, _≤_, _<_}
 use mathlib.Core.Path.{_≡_, refl, ap, ap₂, sym, _∙_, subst}
 use mathlib.Core.Bool.{Bool, true, false, not, _&&_, _||_}
 use mathlib.Core.List.{List, [], map}
-use mathlib.Core.Option.{none}
 use native.Mathlib.Omega.{arith}
 use lib.Dec.{ltb, eqb}
 use lib.ListN.{length, getD, take, length-map}
@@ -12,17 +11,17 @@ use lib.Seq.{take-at}
 use borrow.Author.Tests.{ltb-true, ltb-false, lt-ltb, le-ltb}
 use Rattle.chars.specs.Bytes.{slash}
 use Rattle.chars.specs.Folding.{fold, equivalent}
-use Rattle.base.proofs.Bools.{and-left, and-right, or-true, or-false-left, or-false-right}
-use Rattle.model.specs.Sets.{Bytes, before, sameKey, held, lookup, any}
+use Rattle.base.proofs.Bools.{or-true, or-false-left, or-false-right}
+use Rattle.model.specs.Sets.{Bytes, before, held, lookup, any}
 use Rattle.model.specs.Places.{bound, place}
 use Rattle.model.specs.Fields.{first, prefixOf, suffixOf}
 use Rattle.model.specs.Package.{noItem, State, Item, itemKey, keyOfItem, group, disagrees, grows}
-use Rattle.model.specs.Calls.{clash}
+use Rattle.model.specs.Calls.{misfits}
 use Rattle.model.proofs.Numbers.{numbered, zero-numbered}
 use Rattle.model.proofs.Lists.{any-map, any-same}
 use Rattle.model.proofs.Walks.{first-le}
 use Rattle.model.proofs.Sets.{Absent, absent}
-use Rattle.model.proofs.Places.{bound-hit, bound-miss, bound-place, lookup-at}
+use Rattle.model.proofs.Places.{bound-place}
 use Rattle.model.proofs.Neighbours.{clashing, disagrees-neighbours}
 use Rattle.store.specs.Layout.{countOf}
 use Rattle.store.specs.Rows.{Row}
@@ -30,13 +29,13 @@ use Rattle.contract.specs.Rows.{tagOf, itemRow, otherRows, rowsFor, keyIn}
 use Rattle.contract.specs.Holds.{Holds}
 use Rattle.contract.specs.Searches.{Bounded, Counted}
 use Rattle.contract.proofs.ItemRows.{item-tag, item-prefix}
-use Rattle.items.specs.Clashes.{tagsDisagree, Grown, common, partedAt, Parted, extends, extendedAt, Extended, keyedAt, Keyed, opposedAt, Opposed, OpposedBefore, Clashing}
+use Rattle.items.specs.Clashes.{tagsDisagree, Grown, common, partedAt, Parted, extends, extendedAt, Extended, opposedAt, Opposed, OpposedBefore, Misfitting}
 use Rattle.items.proofs.Tags.{tags-disagree-is}
 use Rattle.items.proofs.Naming.{prefix-take}
-use Rattle.items.proofs.Locating.{bound-of, same-is}
+use Rattle.items.proofs.Locating.{bound-of}
 use Rattle.items.proofs.Growth.{none-grown}
 
--- THE ORDER OF THE THREE
+-- THE ORDER OF THE TWO
 module _ (s : Bytes) (xs : List Item) where
   abbrev Taken : Bool
   Taken = held (lookup keyOfItem (itemKey s) xs)
@@ -47,25 +46,21 @@ module _ (s : Bytes) (xs : List Item) where
   abbrev Growing : Bool
   Growing = any (λ (i : Item). grows (prefixOf s) (prefixOf (i .name))) xs
 
-  first-10 : Taken ≡ true → 10 ≡ clash s xs
-  unfolding clash first
-  first-10 a = rw a
+  first-12 : Disagreeing ≡ true → 12 ≡ first (misfits s xs)
+  unfolding first
+  first-12 d = rw d
 
-  first-12 : Taken ≡ false → Disagreeing ≡ true → 12 ≡ clash s xs
-  unfolding clash first
-  first-12 a d = rw (a, d)
+  first-11 : Disagreeing ≡ false → Growing ≡ true → 11 ≡ first (misfits s xs)
+  unfolding first
+  first-11 d g = rw (d, g)
 
-  first-11 : Taken ≡ false → Disagreeing ≡ false → Growing ≡ true → 11 ≡ clash s xs
-  unfolding clash first
-  first-11 a d g = rw (a, d, g)
-
-  first-0 : Taken ≡ false → Disagreeing ≡ false → Growing ≡ false → 0 ≡ clash s xs
-  unfolding clash first
-  first-0 a d g = rw (a, d, g)
+  first-0 : Disagreeing ≡ false → Growing ≡ false → 0 ≡ first (misfits s xs)
+  unfolding first
+  first-0 d g = rw (d, g)
 
 module _
-    (b s : Bytes) (n t : ℕ) (en : n ≡ length (prefixOf s)) (et : t ≡ tagOf (suffixOf s)) (r m : ℕ) (eb : Bounded b (keyIn 0 (take n s) t []) r) (ec : Counted b m)
-    (z : Bool) (ez : Keyed b r m (take n s) t z)
+    (b s : Bytes) (n t : ℕ) (en : n ≡ length (prefixOf s)) (et : t ≡ tagOf (suffixOf s)) (r m : ℕ)
+    (eb : Bounded b (keyIn 0 (take n s) t []) r) (ec : Counted b m)
   where
     module _ (S : State) (h : Holds b S) where
       m-is : m ≡ length (S .items)
@@ -74,29 +69,6 @@ module _
       r-is : r ≡ bound keyOfItem (itemKey s) (S .items)
       r-is = bound-of b s n t en et r (countOf b) refl eb S h
 
-      same-at : r < length (S .items) → sameKey (itemKey s) (keyOfItem (getD (S .items) r noItem)) ≡ keyedAt b r (take n s) t
-      same-at l = same-is b s n t en et r (countOf b) refl eb S h l
-
-      z-is : z ≡ (ltb r m && keyedAt b r (take n s) t)
-      z-is = ez .is (h .lies .sound) (ec .low)
-
-      -- 10
-      taken : z ≡ true → Taken s (S .items) ≡ true
-      taken q =
-          let l : r < length (S .items) = omega (arith, ltb-true r m (and-left (ltb r m) (keyedAt b r (take n s) t) (sym z-is ∙ q)), m-is) in
-          let k : sameKey (itemKey s) (keyOfItem (getD (S .items) r noItem)) ≡ true = same-at l ∙ and-right (ltb r m) (keyedAt b r (take n s) t) (sym z-is ∙ q) in
-          let B = bound keyOfItem (itemKey s) (S .items) in
-          let p = bound-hit keyOfItem (itemKey s) (S .items) noItem (h .good .items .sorted) (subst (λ (i : ℕ). i < length (S .items)) r-is l) (subst (λ (i : ℕ). sameKey (itemKey s) (keyOfItem (getD (S .items) i noItem)) ≡ true) r-is k) in
-          ap held (lookup-at keyOfItem (itemKey s) (S .items) noItem (subst (λ (i : ℕ). i < length (S .items)) (r-is ∙ sym p) l))
-
-      untaken : z ≡ false → lookup keyOfItem (itemKey s) (S .items) ≡ none
-      untaken q = bound-miss keyOfItem (itemKey s) (S .items) noItem (h .good .items .sorted)
-          (subst (λ (i : ℕ). i < length (S .items) → sameKey (itemKey s) (keyOfItem (getD (S .items) i noItem)) ≡ false) r-is
-          (λ l. same-at l ∙ ap (λ (x : Bool). x && keyedAt b r (take n s) t) (sym (lt-ltb r m (omega (arith, m-is)))) ∙ sym z-is ∙ q))
-
-      free : z ≡ false → Absent keyOfItem (itemKey s) (S .items)
-      free q = absent keyOfItem (itemKey s) (S .items) (ap held (untaken q))
-
       -- 12
       opposed-is : (i : ℕ) → i < length (S .items) → opposedAt b i (take n s) t ≡ clashing s (getD (S .items) i noItem)
       opposed-is i l =
@@ -104,13 +76,17 @@ module _
           ap₂ _&&_ (ap₂ equivalent (item-prefix b S h i l) (prefix-take s n en))
           (ap₂ tagsDisagree et (item-tag b S h i l) ∙ tags-disagree-is (suffixOf s) (suffixOf (y .name)))
 
-      place-is : z ≡ false → place keyOfItem (itemKey s) (S .items) ≡ r
+      free : Taken s (S .items) ≡ false → Absent keyOfItem (itemKey s) (S .items)
+      free q = absent keyOfItem (itemKey s) (S .items) q
+
+      place-is : Taken s (S .items) ≡ false → place keyOfItem (itemKey s) (S .items) ≡ r
       place-is q = sym (r-is ∙ bound-place keyOfItem (itemKey s) (S .items) (free q))
 
-      r-le : z ≡ false → r ≤ length (S .items)
-      r-le q = omega (arith, r-is, first-le (λ (x : Item). not (before (keyOfItem x) (itemKey s))) (S .items))
+      r-le : r ≤ length (S .items)
+      r-le = omega (arith, r-is, first-le (λ (x : Item). not (before (keyOfItem x) (itemKey s))) (S .items))
 
-      neighbours : z ≡ false → Disagreeing s (S .items) ≡ (ltb 0 r && (ltb (r - 1) m && opposedAt b (r - 1) (take n s) t) || ltb r m && opposedAt b r (take n s) t)
+      neighbours : Taken s (S .items) ≡ false → Disagreeing s (S .items)
+          ≡ (ltb 0 r && (ltb (r - 1) m && opposedAt b (r - 1) (take n s) t) || ltb r m && opposedAt b r (take n s) t)
       neighbours q =
           subst (λ (i : ℕ). Disagreeing s (S .items) ≡ (ltb 0 i && clashing s (getD (S .items) (i - 1) noItem) || ltb i (length (S .items)) && clashing s (getD (S .items) i noItem))) (place-is q)
           (disagrees-neighbours s (S .items) (h .good .items .sorted) (h .good .beside) (free q) noItem)
@@ -119,7 +95,7 @@ module _
           lower : (a : Bool) → ltb 0 r ≡ a → (a && clashing s (getD (S .items) (r - 1) noItem)) ≡ (a && (ltb (r - 1) m && opposedAt b (r - 1) (take n s) t))
           lower false e = refl
           lower true e =
-              let l : r - 1 < length (S .items) = omega (arith, ltb-true 0 r e, r-le q) in
+              let l : r - 1 < length (S .items) = omega (arith, ltb-true 0 r e, r-le) in
               rw (lt-ltb (r - 1) m (omega (arith, m-is))) (sym (opposed-is (r - 1) l))
 
           upper : (a : Bool) → ltb r m ≡ a → (ltb r (length (S .items)) && clashing s (getD (S .items) r noItem)) ≡ (a && opposedAt b r (take n s) t)
@@ -138,32 +114,41 @@ module _
           ∙ any-same (λ (i : Item). grows (take n s) (itemRow i .f0)) (λ (i : Item). grows (prefixOf s) (prefixOf (i .name))) (λ i. ap (λ (p : Bytes). grows p (prefixOf (i .name))) (prefix-take s n en)) (S .items)
 
     -- EACH WAY OUT
-    pub clash-10 : z ≡ true → Clashing b s 10
-    clash-10 q = record { is = λ S h. first-10 s (S .items) (taken S h q); numbered = numbered 10 (omega arith) (omega arith) }
-
-    module _ (q : z ≡ false) (x : Bool) (ex : Opposed b r m (take n s) t x) where
+    module _ (x : Bool) (ex : Opposed b r m (take n s) t x) where
       x-is : (S : State) → Holds b S → (ltb r m && opposedAt b r (take n s) t) ≡ x
       x-is S h = sym (ex .is (h .lies .sound) (ec .low))
 
-      pub clash-12 : x ≡ true → Clashing b s 12
-      clash-12 e = record { is = λ S h. first-12 s (S .items) (ap held (untaken S h q)) (neighbours S h q ∙ rw (x-is S h, e, or-true)); numbered = numbered 12 (omega arith) (omega arith) }
+      pub misfit-12 : x ≡ true → Misfitting b s 12
+      misfit-12 e = record {
+        is = λ S h q. first-12 s (S .items) (neighbours S h q ∙ rw (x-is S h, e, or-true));
+        numbered = numbered 12 (omega arith) (omega arith);
+      }
 
       module _ (y : Bool) (ey : OpposedBefore b r m (take n s) t y) where
         y-is : (S : State) → Holds b S → (ltb 0 r && (ltb (r - 1) m && opposedAt b (r - 1) (take n s) t)) ≡ y
         y-is S h = sym (ey .is (h .lies .sound) (ec .low))
 
-        pub clash-12-before : y ≡ true → Clashing b s 12
-        clash-12-before e = record { is = λ S h. first-12 s (S .items) (ap held (untaken S h q)) (neighbours S h q ∙ rw (y-is S h, e)); numbered = numbered 12 (omega arith) (omega arith) }
+        pub misfit-12-before : y ≡ true → Misfitting b s 12
+        misfit-12-before e = record {
+          is = λ S h q. first-12 s (S .items) (neighbours S h q ∙ rw (y-is S h, e));
+          numbered = numbered 12 (omega arith) (omega arith);
+        }
 
         module _ (e : x ≡ false) (f : y ≡ false) (w : Bool) (ew : Grown b m (take n s) w) where
-          agreeing : (S : State) → Holds b S → Disagreeing s (S .items) ≡ false
-          agreeing S h = neighbours S h q ∙ rw (y-is S h, f, x-is S h, e)
+          agreeing : (S : State) → Holds b S → Taken s (S .items) ≡ false → Disagreeing s (S .items) ≡ false
+          agreeing S h q = neighbours S h q ∙ rw (y-is S h, f, x-is S h, e)
 
-          pub clash-11 : w ≡ true → Clashing b s 11
-          clash-11 g = record { is = λ S h. first-11 s (S .items) (ap held (untaken S h q)) (agreeing S h) (sym (growing S h w ew) ∙ g); numbered = numbered 11 (omega arith) (omega arith) }
+          pub misfit-11 : w ≡ true → Misfitting b s 11
+          misfit-11 g = record {
+            is = λ S h q. first-11 s (S .items) (agreeing S h q) (sym (growing S h w ew) ∙ g);
+            numbered = numbered 11 (omega arith) (omega arith);
+          }
 
-          pub clash-0 : w ≡ false → Clashing b s 0
-          clash-0 g = record { is = λ S h. first-0 s (S .items) (ap held (untaken S h q)) (agreeing S h) (sym (growing S h w ew) ∙ g); numbered = zero-numbered }
+          pub misfit-0 : w ≡ false → Misfitting b s 0
+          misfit-0 g = record {
+            is = λ S h q. first-0 s (S .items) (agreeing S h q) (sym (growing S h w ew) ∙ g);
+            numbered = zero-numbered;
+          }
 
         -- the rows beside r show that 11 does not hold
         module _ (e : x ≡ false) (f : y ≡ false) (u : Bool) (eu : Parted b r (take n s) u) (v : Bool) (ev : Extended b r m (take n s) v) (k : (u || v) ≡ false) where
@@ -181,8 +166,12 @@ module _
             ungrown : Growing s (S .items) ≡ false
             ungrown =
                 none-grown S (h .good) s r (r-is S h)
-                (λ z. ap (λ (a : Bytes). eqb (getD (prefixOf s) (common (fold a) (fold (prefixOf s))) 0) slash) (sym (item-prefix b S h (r - 1) (omega (arith, r-le S h q)))) ∙ unparted z)
+                (λ z. ap (λ (a : Bytes). eqb (getD (prefixOf s) (common (fold a) (fold (prefixOf s))) 0) slash)
+                (sym (item-prefix b S h (r - 1) (omega (arith, r-le S h)))) ∙ unparted z)
                 (λ z. ap (λ (a : Bytes). extends a (prefixOf s)) (sym (item-prefix b S h r z)) ∙ unextended z)
 
-          pub clash-apart : Clashing b s 0
-          clash-apart = record { is = λ S h. first-0 s (S .items) (ap held (untaken S h q)) (neighbours S h q ∙ rw (y-is S h, f, x-is S h, e)) (ungrown S h); numbered = zero-numbered }
+          pub misfit-apart : Misfitting b s 0
+          misfit-apart = record {
+            is = λ S h q. first-0 s (S .items) (neighbours S h q ∙ rw (y-is S h, f, x-is S h, e)) (ungrown S h);
+            numbered = zero-numbered;
+          }

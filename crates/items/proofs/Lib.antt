@@ -6,7 +6,6 @@ pub mod GrowingRows
 pub mod CommonStarts
 pub mod Growth
 pub mod Clashing
-pub mod Putting
 pub mod Starting
 pub mod Looking
 pub mod Changing

@@ -1,13 +1,13 @@
 -- The tests of one row beside a new item.
 -- Assumes nothing.
-use Prim.Native.Nat.{ℕ, _-_, _/_, _≤_, _<_}
+use Prim.Native.Nat.{ℕ, _-_, _≤_, _<_}
 use mathlib.Core.Path.{_≡_, ap, sym, _∙_}
 use mathlib.Core.Bool.{Bool, true, false, not, _&&_}
 use mathlib.Core.List.{List}
 use native.Mathlib.Omega.{arith}
 use lib.Dec.{ltb, eqb}
 use lib.ListN.{length, getD, take}
-use borrow.Author.Tests.{lt-ltb, le-ltb, eq-eqb, ne-eqb, not-true, not-false}
+use borrow.Author.Tests.{lt-ltb, le-ltb, not-true, not-false}
 use Rattle.chars.specs.Bytes.{slash}
 use Rattle.chars.specs.Folding.{fold, equivalent}
 use Rattle.base.proofs.Bools.{and-false, and-right-true}
@@ -15,31 +15,18 @@ use Rattle.model.specs.Sets.{Bytes}
 use Rattle.store.specs.Layout.{countOf}
 use Rattle.store.specs.Rows.{rowAt, tagAt, fieldOf}
 use Rattle.store.specs.Packages.{Shape, Sound}
-use Rattle.items.specs.Clashes.{tagsDisagree, common, extends, Parted, Extended, Keyed, Opposed, OpposedBefore}
+use Rattle.items.specs.Clashes.{tagsDisagree, common, extends, Parted, Extended, Opposed, OpposedBefore}
 
 both-true : (a x c : Bool) → a ≡ true → c ≡ true → x ≡ (a && (x && c))
 both-true a x c e f = rw (e, f, and-right-true)
 
 module _ (b : List ℕ) (i m : ℕ) (p : Bytes) (t : ℕ) where
-  pub keyed-past : m ≤ i → Keyed b i m p t false
-  keyed-past l = record { is = λ s k. rw (le-ltb i m l) }
-
   pub opposed-past : m ≤ i → Opposed b i m p t false
   opposed-past l = record { is = λ s k. rw (le-ltb i m l) }
 
   module _ (l : i < m) (u : ℕ) (eu : Shape b → i < countOf b → u ≡ tagAt b i) where
     tag-at : Sound b → m ≤ countOf b → tagAt b i ≡ u
     tag-at s k = sym (eu (s .shape) (omega arith))
-
-    pub keyed-other : (u / 2 ≡ t / 2 → ⊥) → Keyed b i m p t false
-    keyed-other e = record { is = λ s k. rw (lt-ltb i m l, tag-at s k, ne-eqb (u / 2) (t / 2) e, and-false) }
-
-    pub keyed-here : u / 2 ≡ t / 2 → (f : Bytes) → (Sound b → i < countOf b → f ≡ fieldOf (rowAt b i) 0) → (z : Bool) → z ≡ equivalent f p → Keyed b i m p t z
-    keyed-here e f ef z ez = record {
-      is = λ s k.
-          ez ∙ ap (λ (g : Bytes). equivalent g p) (ef s (omega arith))
-          ∙ both-true (ltb i m) (equivalent (fieldOf (rowAt b i) 0) p) (eqb (tagAt b i / 2) (t / 2)) (lt-ltb i m l) (ap (λ (v : ℕ). eqb (v / 2) (t / 2)) (tag-at s k) ∙ eq-eqb (u / 2) (t / 2) e);
-    }
 
     module _ (d : Bool) (ed : d ≡ tagsDisagree t u) where
       pub opposed-agree : not d ≡ true → Opposed b i m p t false

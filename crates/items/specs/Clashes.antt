@@ -1,19 +1,20 @@
 -- What the tests of a new item beside the held ones find. These are promises of inner functions.
 -- Assumes nothing.
-use Prim.Native.Nat.{ℕ, suc, _+_, _-_, _/_, _%_, _≤_}
+use Prim.Native.Nat.{ℕ, suc, _-_, _/_, _%_, _≤_}
 use mathlib.Core.Path.{_≡_}
-use mathlib.Core.Bool.{Bool, not, _&&_, _||_, cond}
+use mathlib.Core.Bool.{Bool, false, not, _&&_, _||_, cond}
 use mathlib.Core.List.{List, [], _∷_}
 use lib.Dec.{ltb, eqb}
 use lib.ListN.{length, getD, take, drop}
 use Rattle.chars.specs.Bytes.{slash}
 use Rattle.chars.specs.Folding.{fold, equivalent}
-use Rattle.model.specs.Sets.{Bytes, any}
-use Rattle.model.specs.Package.{State, grows}
-use Rattle.model.specs.Calls.{Numbered, clash, putItemRefusal}
+use Rattle.model.specs.Sets.{Bytes, held, lookup, any}
+use Rattle.model.specs.Fields.{first}
+use Rattle.model.specs.Package.{State, itemKey, keyOfItem, grows}
+use Rattle.model.specs.Calls.{Numbered, misfits}
 use Rattle.store.specs.Layout.{countOf}
 use Rattle.store.specs.Rows.{Row, rowAt, tagAt, rowsOf, fieldOf}
-use Rattle.store.specs.Packages.{Sound, Room}
+use Rattle.store.specs.Packages.{Sound}
 use Rattle.contract.specs.Holds.{Holds}
 
 -- `disagrees`, read off the tags of two items
@@ -57,13 +58,6 @@ extendedAt b i p = extends (fieldOf (rowAt b i) 0) p
 pub record Extended (b : List ℕ) (i m : ℕ) (p : Bytes) (z : Bool) : Type 0 where
   pub is : Sound b → m ≤ countOf b → z ≡ (ltb i m && extendedAt b i p)
 
--- row i has the prefix p and the number of the tag t
-abbrev pub keyedAt : List ℕ → ℕ → Bytes → ℕ → Bool
-keyedAt b i p t = equivalent (fieldOf (rowAt b i) 0) p && eqb (tagAt b i / 2) (t / 2)
-
-pub record Keyed (b : List ℕ) (i m : ℕ) (p : Bytes) (t : ℕ) (z : Bool) : Type 0 where
-  pub is : Sound b → m ≤ countOf b → z ≡ (ltb i m && keyedAt b i p t)
-
 -- row i has the prefix p, and its suffix disagrees with that of the tag t
 abbrev pub opposedAt : List ℕ → ℕ → Bytes → ℕ → Bool
 opposedAt b i p t = equivalent (fieldOf (rowAt b i) 0) p && tagsDisagree t (tagAt b i)
@@ -74,13 +68,7 @@ pub record Opposed (b : List ℕ) (i m : ℕ) (p : Bytes) (t : ℕ) (z : Bool) :
 pub record OpposedBefore (b : List ℕ) (r m : ℕ) (p : Bytes) (t : ℕ) (z : Bool) : Type 0 where
   pub is : Sound b → m ≤ countOf b → z ≡ (ltb 0 r && (ltb (r - 1) m && opposedAt b (r - 1) p t))
 
--- k is the refusal of a new item of that name by the held ones: 10, 12 or 11, 0 for none
-pub record Clashing (b : List ℕ) (name : Bytes) (k : ℕ) : Type 0 where
-  pub is : (S : State) → Holds b S → k ≡ clash name (S .items)
-  pub numbered : Numbered k
-
--- k is the refusal of a put whose name is accepted; where it is 0 there is room for the row at r
-pub record Cleared (b : List ℕ) (name : Bytes) (size r k : ℕ) : Type 0 where
-  pub is : (S : State) (bytes : Bytes) → Holds b S → length bytes ≡ size → putItemRefusal S name bytes ≡ k
-  pub room : k ≡ 0 → Room b r (length name + size)
+-- k is the refusal of a new item of that name by the items' own tests, where its key is not taken: 12 or 11, 0 for none
+pub record Misfitting (b : List ℕ) (name : Bytes) (k : ℕ) : Type 0 where
+  pub is : (S : State) → Holds b S → held (lookup keyOfItem (itemKey name) (S .items)) ≡ false → k ≡ first (misfits name (S .items))
   pub numbered : Numbered k

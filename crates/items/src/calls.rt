@@ -1,20 +1,22 @@
 // The calls on items.
-use crate::clashes::put_refusal;
+use crate::clashes::misfit_of;
 use crate::wanted::Wanted;
 use crate::wanted::asked;
 use crate::wanted::item_row;
 use crate::wanted::strict;
 use contract::CAPACITY_LIMIT;
 use contract::ITEMS;
+use contract::ITEM_LIMIT;
 use contract::OVERHEAD;
 use contract::answers::Did;
 use contract::answers::Found;
+use contract::entries::put_at;
 use contract::gate::opened;
 use contract::search::bound;
+use contract::search::item_count;
 use store::header::count;
 use store::header::init;
 use store::rows::field;
-use store::rows::insert;
 use store::rows::remove;
 ghost use Rattle.model.specs.Calls.{Call, Look, Change};
 ghost use Rattle.contract.specs.Answers.{ofDid, ofFound, ofView};
@@ -46,12 +48,8 @@ pub fn put_item(pkg: &mut [u8], name: &[u8], bytes: &[u8]) -> Did
         Wanted::Refused(k) => Did::Refused(k),
         Wanted::Named(n, t) => {
             let r = bound(pkg, ITEMS, &name[..n], t, b"");
-            let k = put_refusal(pkg, name, n, t, r, bytes.len());
-            if k != 0 {
-                return Did::Refused(k);
-            }
-            insert(pkg, r, t, &name[..n], &name[n..], bytes, b"");
-            Did::Done
+            let own = misfit_of(pkg, name, n, t, r, item_count(pkg));
+            put_at(pkg, r, own, ITEMS, ITEM_LIMIT, t, &name[..n], &name[n..], bytes, b"")
         }
     }
 }

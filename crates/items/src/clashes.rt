@@ -1,15 +1,10 @@
-// Whether a new item may stand beside the held ones: refusals 10, 12, 11 and 15.
+// Whether a new item may stand beside the held ones: refusals 12 and 11.
 use base::bytes::byte_at;
 use base::numbers::smaller;
 use chars::folding::is_derivable;
 use chars::folding::is_equivalent;
 use chars::letters::is_same_letter;
 use chars::starts::same_start;
-use contract::ITEM_LIMIT;
-use contract::search::item_count;
-use store::SLOT_COUNT;
-use store::header::count;
-use store::header::free;
 use store::rows::field;
 use store::rows::tag;
 ghost use mathlib.Core.Path.{_≡_};
@@ -17,13 +12,12 @@ ghost use Prim.Native.Nat.{_≤_, _<_};
 ghost use mathlib.Core.List.{[]};
 ghost use lib.ListN.{length, take};
 ghost use Rattle.chars.specs.Folding.{fold};
-ghost use Rattle.model.specs.Fields.{itemField, prefixOf, suffixOf};
+ghost use Rattle.model.specs.Fields.{prefixOf, suffixOf};
 ghost use Rattle.model.specs.Package.{grows};
 ghost use Rattle.store.specs.Layout.{countOf};
-ghost use Rattle.store.specs.Packages.{Shape};
 ghost use Rattle.contract.specs.Rows.{tagOf, keyIn};
 ghost use Rattle.contract.specs.Searches.{Bounded, Counted};
-ghost use Rattle.items.specs.Clashes.{tagsDisagree, Grown, common, Parted, extends, Extended, Keyed, Opposed, OpposedBefore, Clashing, Cleared};
+ghost use Rattle.items.specs.Clashes.{tagsDisagree, Grown, common, Parted, extends, Extended, Opposed, OpposedBefore, Misfitting};
 
 // The suffixes of two items of one group disagree, by their tags.
 fn tags_disagree(t: usize, u: usize) -> bool
@@ -104,19 +98,6 @@ fn is_extended(pkg: &[u8], i: usize, m: usize, p: &[u8]) -> bool
     is_longer(field(pkg, i, 0), p)
 }
 
-// Row i is one of the m items and has the key of a new one.
-fn is_keyed(pkg: &[u8], i: usize, m: usize, p: &[u8], t: usize) -> bool
-    ensures { λ r. ⌜ Keyed (now (pkg .entry)) i m (now (p .entry)) t r ⌝ }
-{
-    if m <= i {
-        return false;
-    }
-    if tag(pkg, i) / 2 != t / 2 {
-        return false;
-    }
-    is_equivalent(field(pkg, i, 0), p)
-}
-
 // Row i is one of the m items, of a new one's group, and its suffix disagrees with the new one's.
 fn is_opposed(pkg: &[u8], i: usize, m: usize, p: &[u8], t: usize) -> bool
     ensures { λ r. ⌜ Opposed (now (pkg .entry)) i m (now (p .entry)) t r ⌝ }
@@ -140,17 +121,14 @@ fn is_opposed_before(pkg: &[u8], r: usize, m: usize, p: &[u8], t: usize) -> bool
     is_opposed(pkg, r - 1, m, p, t)
 }
 
-// 10, 12, 11 or 0, for a new item that would be row r of m items: only the rows beside r can have its key or disagree with it, and mostly they
-// show that no prefix is derivable from its prefix, or that from one.
-fn clash_of(pkg: &[u8], s: &[u8], n: usize, t: usize, r: usize, m: usize) -> u8
+// 12, 11 or 0, for a new item whose key is not taken and that would be row r of m items: only the rows beside r can disagree with it, and
+// mostly they show that no prefix is derivable from its prefix, or that from one.
+pub(crate) fn misfit_of(pkg: &[u8], s: &[u8], n: usize, t: usize, r: usize, m: usize) -> u8
     requires { ⌜ (n ≡ length (prefixOf (now s))) × (t ≡ tagOf (suffixOf (now s))) ⌝ }
     requires { ⌜ Bounded (now pkg) (keyIn 0 (take n (now s)) t []) r ⌝ }
     requires { ⌜ Counted (now pkg) m ⌝ }
-    ensures { λ k. ⌜ Clashing (now (pkg .entry)) (now (s .entry)) k ⌝ }
+    ensures { λ k. ⌜ Misfitting (now (pkg .entry)) (now (s .entry)) k ⌝ }
 {
-    if is_keyed(pkg, r, m, &s[..n], t) {
-        return 10;
-    }
     if is_opposed(pkg, r, m, &s[..n], t) {
         return 12;
     }
@@ -161,34 +139,6 @@ fn clash_of(pkg: &[u8], s: &[u8], n: usize, t: usize, r: usize, m: usize) -> u8
         if has_grown(pkg, m, &s[..n]) {
             return 11;
         }
-    }
-    0
-}
-
-// The refusal of a put whose name is accepted: 10, 12, 11, 15, or 0.
-pub(crate) fn put_refusal(pkg: &[u8], s: &[u8], n: usize, t: usize, r: usize, size: usize) -> u8
-    requires { ⌜ Shape (now pkg) ⌝ }
-    requires { ⌜ (n ≡ length (prefixOf (now s))) × (t ≡ tagOf (suffixOf (now s))) × (itemField (now s) ≡ 0) ⌝ }
-    requires { ⌜ Bounded (now pkg) (keyIn 0 (take n (now s)) t []) r ⌝ }
-    ensures { λ k. ⌜ Cleared (now (pkg .entry)) (now (s .entry)) size r k ⌝ }
-{
-    let m = item_count(pkg);
-    let k = clash_of(pkg, s, n, t, r, m);
-    if k != 0 {
-        return k;
-    }
-    if ITEM_LIMIT <= m {
-        return 15;
-    }
-    if SLOT_COUNT <= count(pkg) {
-        return 15;
-    }
-    let room = free(pkg);
-    if room < s.len() {
-        return 15;
-    }
-    if room - s.len() < size {
-        return 15;
     }
     0
 }

@@ -94,7 +94,7 @@ module _ (s i v : Bytes) (m : ℕ) (t : Bytes) where
 
 -- THE CALLS are a put and a drop of their set
 pub putting : (s i v : Bytes) (m : ℕ) (t : Bytes) →
-    Putting relationshipRows (PutRelationship s i v m t) (record { source = s; id = i; type = v; mode = m; target = t })
+    Putting relationshipRows (PutRelationship s i v m t) (record { source = s; id = i; type = v; mode = m; target = t }) (λ _. [])
 unfolding putRelationshipRefusal
 putting s i v m t = record { refusal = λ S. refl; made = λ S. refl }
 

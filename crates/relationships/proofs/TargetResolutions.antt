@@ -59,7 +59,8 @@ module _ (s i b : Bytes) (k : ℕ) (ek : k ≡ first (sourceField s ∷ idField 
   module _ (z : k ≡ 0) (y : Bool) (ey : y ≡ packageIri b) where
     base-is : (t : Bool) → y ≡ t → first (sourceField s ∷ idField i ∷ packageField b ∷ []) ≡ when (not t) 9
     base-is t e =
-        first-past (sourceField s ∷ idField i ∷ []) (packageField b ∷ []) (sym ek ∙ z) ∙ first-one (packageField b) ∙ ap (λ (t : Bool). when (not t) 9) (sym ey ∙ e)
+        first-past (sourceField s ∷ idField i ∷ []) (packageField b ∷ []) (sym ek ∙ z)
+        ∙ first-one (packageField b) ∙ ap (λ (t : Bool). when (not t) 9) (sym ey ∙ e)
 
     pub asked-fine : y ≡ true → 0 ≡ first (sourceField s ∷ idField i ∷ packageField b ∷ [])
     asked-fine e = sym (base-is true e)

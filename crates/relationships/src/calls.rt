@@ -71,6 +71,7 @@ pub fn put_relationship(
     }
     put_row(
         pkg,
+        0,
         RELATIONSHIP_LIMIT,
         RELATIONSHIP_TAG + mode as usize,
         source,

@@ -9,7 +9,7 @@ use native.Mathlib.Omega.{arith}
 use native.Mathlib.Numerals.{add-one}
 use lib.Dec.{leb}
 use borrow.Author.Tests.{leb-true, leb-false}
-use Rattle.store.specs.Layout.{countOf, usedOf, slotOf, sizeOf}
+use Rattle.store.specs.Layout.{countOf, usedOf}
 use Rattle.store.specs.Rows.{rowAt, rowSize, sizeAt}
 use Rattle.store.specs.Packages.{Sound}
 use Rattle.store.proofs.Sums.{sum, sum-same, total-sum}

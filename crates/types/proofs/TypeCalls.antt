@@ -25,22 +25,24 @@ module _ (s v : Bytes) where
   abbrev pub asOverride : Override
   asOverride = record { name = s; type = v }
 
-  pub putting-default : Putting defaultRows (PutDefault s v) asDefault
+  pub putting-default : Putting defaultRows (PutDefault s v) asDefault (λ _. [])
   unfolding putDefaultRefusal
   putting-default = record { refusal = λ S. refl; made = λ S. refl }
 
-  pub putting-override : Putting overrideRows (PutOverride s v) asOverride
+  pub putting-override : Putting overrideRows (PutOverride s v) asOverride (λ _. [])
   unfolding putOverrideRefusal
   putting-override = record { refusal = λ S. refl; made = λ S. refl }
 
   -- the text of accepted fields has a byte at least
   pub default-some : defaultFields s v ≡ 0 → 0 < length s
   unfolding defaultFields
-  default-some z = omega (arith, extension-size s (not-false (extension s) (unmet (not (extension s)) 7 (omega arith) (all-none _ z .0))) .0)
+  default-some z =
+      omega (arith, extension-size s (not-false (extension s) (unmet (not (extension s)) 7 (omega arith) (all-none _ z .0))) .0)
 
   pub override-some : overrideFields s v ≡ 0 → 0 < length s
   unfolding overrideFields
-  override-some z = omega (arith, part-name-size s (not-false (partName s) (unmet (not (partName s)) 4 (omega arith) (all-none _ z .0))) .0)
+  override-some z =
+      omega (arith, part-name-size s (not-false (partName s) (unmet (not (partName s)) 4 (omega arith) (all-none _ z .0))) .0)
 
 module _ (s : Bytes) where
   pub dropping-default : Dropping defaultRows (DropDefault s) (extensionField s ∷ []) (nameKey s)

@@ -75,7 +75,7 @@ pub fn put_default(pkg: &mut [u8], extension: &[u8], media: &[u8]) -> Did
     if k != 0 {
         return Did::Refused(k);
     }
-    put_row(pkg, DEFAULT_LIMIT, DEFAULT_TAG, extension, media, b"", b"")
+    put_row(pkg, 0, DEFAULT_LIMIT, DEFAULT_TAG, extension, media, b"", b"")
 }
 
 pub fn drop_default(pkg: &mut [u8], extension: &[u8]) -> Did
@@ -103,7 +103,7 @@ pub fn put_override(pkg: &mut [u8], name: &[u8], media: &[u8]) -> Did
     if k != 0 {
         return Did::Refused(k);
     }
-    put_row(pkg, OVERRIDE_LIMIT, OVERRIDE_TAG, name, media, b"", b"")
+    put_row(pkg, 0, OVERRIDE_LIMIT, OVERRIDE_TAG, name, media, b"", b"")
 }
 
 pub fn drop_override(pkg: &mut [u8], name: &[u8]) -> Did

@@ -2,6 +2,8 @@ use mathlib.Core.Path.{refl, sym, _∙_}
 use native.Mathlib.Omega.{arith}
 use Rattle.model.specs.Calls.{Changes, PutRelationship}
 use Rattle.contract.proofs.Opening.{turned-away, let-in}
+use Rattle.model.specs.Fields.{first}
+use Rattle.model.proofs.Numbers.{zero-numbered}
 use Rattle.contract.specs.Rows.{relationshipRow, relationshipRows}
 use Rattle.contract.proofs.RowKinds.{relationship-rows}
 use Rattle.contract.proofs.SetCalls.{put-refused, put-ran}
@@ -23,7 +25,7 @@ returns-2 c =
     let at-if1 = at-fields-refusal .before in
     let at-opened = at-if1 .before in
     let args = at-opened .before .before .before .before .before .before .before .args in
-    put-refused relationshipRows relationship-rows _ (let-in _ _ (at-opened .opened .ensures) (at-if1 .if1 .left)) _ _ _
+    put-refused relationshipRows relationship-rows _ (let-in _ _ (at-opened .opened .ensures) (at-if1 .if1 .left)) _ _ _ _
     (putting (args .source .now) (args .id .now) (args .kind .now) (args .mode) (args .target .now))
     (at-fields-refusal .fields-refusal .ensures) (c .if2 .taken)
 
@@ -46,11 +48,11 @@ put-row-requires c κs =
     let l = mode-small (at-args .args .source .now) (at-args .args .id .now) (at-args .args .kind .now) (at-args .args .mode)
     (at-args .args .target .now) (sym (at-fields-refusal .fields-refusal .ensures) ∙ at-if2 .if2 .left) in
     (let-in _ _ (at-opened .opened .ensures) (at-if1 .if1 .left) .shape,
-    (source-some (at-args .args .source .now) (at-args .args .id .now) (at-args .args .kind .now) (at-args .args .mode)
-    (at-args .args .target .now) (sym (at-fields-refusal .fields-refusal .ensures) ∙ at-if2 .if2 .left), omega arith))
+    (zero-numbered, (source-some (at-args .args .source .now) (at-args .args .id .now) (at-args .args .kind .now) (at-args .args .mode)
+    (at-args .args .target .now) (sym (at-fields-refusal .fields-refusal .ensures) ∙ at-if2 .if2 .left), omega arith)))
 
 returns-3 : tie.Need-returns-3
-unfolding relationshipRow
+unfolding relationshipRow first
 returns-3 c =
     let at-put-row = c .before .before in
     let at-if2 = at-put-row .before .before in
@@ -58,9 +60,10 @@ returns-3 c =
     let at-if1 = at-fields-refusal .before in
     let at-opened = at-if1 .before in
     let args = at-opened .before .before .before .before .before .before .before .args in
-    put-ran relationshipRows relationship-rows _ (let-in _ _ (at-opened .opened .ensures) (at-if1 .if1 .left)) _ _ _
+    put-ran relationshipRows relationship-rows _ (let-in _ _ (at-opened .opened .ensures) (at-if1 .if1 .left)) _ _ _ _
     (putting (args .source .now) (args .id .now) (args .kind .now) (args .mode) (args .target .now))
-    (at-fields-refusal .fields-refusal .ensures) (at-if2 .if2 .left) _ _ (at-put-row .put-row .kept .0) (at-put-row .put-row .ensures)
+    (at-fields-refusal .fields-refusal .ensures) (at-if2 .if2 .left) 0 (λ S h f. refl) _ _ (at-put-row .put-row .kept .0)
+    (at-put-row .put-row .ensures)
 
 pub put-relationship-spec : {M : Type 1} → statement M
 put-relationship-spec =

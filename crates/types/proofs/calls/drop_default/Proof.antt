@@ -22,8 +22,8 @@ returns-2 c =
     let at-if1 = at-refusal .before in
     let at-opened = at-if1 .before in
     let args = at-opened .before .before .before .before .args in
-    drop-refused defaultRows default-rows _ (let-in _ _ (at-opened .opened .ensures) (at-if1 .if1 .left)) _ _ _ _ (dropping-default (args .extension .now))
-    (at-refusal .extension-refusal .ensures ∙ sym (first-one _)) (c .if2 .taken)
+    drop-refused defaultRows default-rows _ (let-in _ _ (at-opened .opened .ensures) (at-if1 .if1 .left)) _ _ _ _
+    (dropping-default (args .extension .now)) (at-refusal .extension-refusal .ensures ∙ sym (first-one _)) (c .if2 .taken)
 
 drop-row-requires : tie.Need-drop-row-requires
 drop-row-requires c κs =
@@ -39,8 +39,9 @@ returns-3 c =
     let at-if1 = at-refusal .before in
     let at-opened = at-if1 .before in
     let args = at-opened .before .before .before .before .args in
-    drop-ran defaultRows default-rows _ (let-in _ _ (at-opened .opened .ensures) (at-if1 .if1 .left)) _ _ _ _ (dropping-default (args .extension .now))
-    (at-refusal .extension-refusal .ensures ∙ sym (first-one _)) (at-if2 .if2 .left) _ _ (at-drop-row .drop-row .kept .0) (at-drop-row .drop-row .ensures)
+    drop-ran defaultRows default-rows _ (let-in _ _ (at-opened .opened .ensures) (at-if1 .if1 .left)) _ _ _ _
+    (dropping-default (args .extension .now)) (at-refusal .extension-refusal .ensures ∙ sym (first-one _)) (at-if2 .if2 .left) _ _
+    (at-drop-row .drop-row .kept .0) (at-drop-row .drop-row .ensures)
 
 pub drop-default-spec : {M : Type 1} → statement M
 drop-default-spec =

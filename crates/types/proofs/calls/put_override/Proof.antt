@@ -1,6 +1,8 @@
 use mathlib.Core.Path.{refl, sym, _∙_}
 use native.Mathlib.Omega.{arith}
 use Rattle.model.specs.Calls.{Changes, PutOverride}
+use Rattle.model.specs.Fields.{first}
+use Rattle.model.proofs.Numbers.{zero-numbered}
 use Rattle.contract.specs.Rows.{overrideRow, overrideRows}
 use Rattle.contract.proofs.Opening.{turned-away, let-in}
 use Rattle.contract.proofs.RowKinds.{override-rows}
@@ -22,7 +24,7 @@ returns-2 c =
     let at-if1 = at-refusal .before in
     let at-opened = at-if1 .before in
     let args = at-opened .before .before .before .before .before .args in
-    put-refused overrideRows override-rows _ (let-in _ _ (at-opened .opened .ensures) (at-if1 .if1 .left)) _ _ _
+    put-refused overrideRows override-rows _ (let-in _ _ (at-opened .opened .ensures) (at-if1 .if1 .left)) _ _ _ _
     (putting-override (args .name .now) (args .media .now)) (at-refusal .override-refusal .ensures) (c .if2 .taken)
 
 put-row-requires : tie.Need-put-row-requires
@@ -32,10 +34,10 @@ put-row-requires c κs =
     let at-if1 = at-refusal .before in
     let at-opened = at-if1 .before in
     (let-in _ _ (at-opened .opened .ensures) (at-if1 .if1 .left) .shape,
-    (override-some _ _ (sym (at-refusal .override-refusal .ensures) ∙ at-if2 .if2 .left), omega arith))
+    (zero-numbered, (override-some _ _ (sym (at-refusal .override-refusal .ensures) ∙ at-if2 .if2 .left), omega arith)))
 
 returns-3 : tie.Need-returns-3
-unfolding overrideRow
+unfolding overrideRow first
 returns-3 c =
     let at-put-row = c .before .before in
     let at-if2 = at-put-row .before .before .before .before in
@@ -43,9 +45,9 @@ returns-3 c =
     let at-if1 = at-refusal .before in
     let at-opened = at-if1 .before in
     let args = at-opened .before .before .before .before .before .args in
-    put-ran overrideRows override-rows _ (let-in _ _ (at-opened .opened .ensures) (at-if1 .if1 .left)) _ _ _
-    (putting-override (args .name .now) (args .media .now)) (at-refusal .override-refusal .ensures) (at-if2 .if2 .left) _ _
-    (at-put-row .put-row .kept .0) (at-put-row .put-row .ensures)
+    put-ran overrideRows override-rows _ (let-in _ _ (at-opened .opened .ensures) (at-if1 .if1 .left)) _ _ _ _
+    (putting-override (args .name .now) (args .media .now)) (at-refusal .override-refusal .ensures) (at-if2 .if2 .left)
+    0 (λ S h f. refl) _ _ (at-put-row .put-row .kept .0) (at-put-row .put-row .ensures)
 
 pub put-override-spec : {M : Type 1} → statement M
 put-override-spec =
