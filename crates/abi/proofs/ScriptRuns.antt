@@ -87,7 +87,11 @@ module _ {s p out q o : Bytes} {k w m : ℕ} (g : Going s p out k w m q o) where
             let lt : length (take w o) ≡ w = length-take-le w o (omega (arith, g .written, g .size)) in
             let dy : drop w₁ ys ≡ drop w₁ O = ap (drop w₁) eo ∙ drop-at text (drop w₁ O) w₁ len in
             let inside : (k₁ ≤ length s - k) = omega (arith, call-inside S e .1, length-drop k s) in
-            let taken : take (w + w₁) o′ ≡ take w o ++ text = ap (take (w + w₁)) o′-is ∙ ap (λ (n : ℕ). take (n + w₁) (take w o ++ ys)) (sym lt) ∙ take-append-add (take w o) ys w₁ ∙ ap (λ (y : Bytes). take w o ++ y) (ap (take w₁) eo ∙ take-at text (drop w₁ O) w₁ len) in (
+            let taken : take (w + w₁) o′ ≡ take w o ++ text =
+            ap (take (w + w₁)) o′-is
+            ∙ ap (λ (n : ℕ). take (n + w₁) (take w o ++ ys)) (sym lt)
+            ∙ take-append-add (take w o) ys w₁
+            ∙ ap (λ (y : Bytes). take w o ++ y) (ap (take w₁) eo ∙ take-at text (drop w₁ O) w₁ len) in (
               inside,
               record {
                 read = omega (arith, g .read);

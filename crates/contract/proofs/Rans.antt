@@ -12,7 +12,8 @@ use Rattle.output.specs.Answers.{Answer, unanswered, filled}
 use Rattle.output.proofs.Answering.{refusing-is}
 use Rattle.model.specs.Fields.{when}
 use Rattle.model.specs.Package.{State, empty}
-use Rattle.model.specs.Calls.{Look, Find, View, Totals, Change, Print, Call, Start, Looks, Changes, Prints, done, refused, changed, Numbered, capacityLimit, overhead, startRefusal, look, change, changeRefusal, changeMade, printed, valueCount}
+use Rattle.model.specs.Calls.{Look, Find, View, Totals, Change, Print, Call, Start, Looks, Changes, Prints, done, refused, changed}
+use Rattle.model.specs.Calls.{Numbered, capacityLimit, overhead, startRefusal, look, change, changeRefusal, changeMade, printed, valueCount}
 use Rattle.model.proofs.Numbers.{zero-numbered, change-numbered}
 use Rattle.model.proofs.Steps.{change-good}
 use Rattle.store.specs.Packages.{isPackage}

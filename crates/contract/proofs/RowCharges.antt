@@ -31,9 +31,16 @@ total-rows S =
     let D = entryRows defaultRows S in
     let O = entryRows overrideRows S in
     let R = entryRows relationshipRows S in
-    omega (arith, total-append I (D ++ (O ++ R)), total-append D (O ++ R), total-append O R, total-map itemRows item-rows (S .items),
-        total-map defaultRows default-rows (S .defaults), total-map overrideRows override-rows (S .overrides),
-        total-map relationshipRows relationship-rows (S .relationships))
+    omega (
+      arith,
+      total-append I (D ++ (O ++ R)),
+      total-append D (O ++ R),
+      total-append O R,
+      total-map itemRows item-rows (S .items),
+      total-map defaultRows default-rows (S .defaults),
+      total-map overrideRows override-rows (S .overrides),
+      total-map relationshipRows relationship-rows (S .relationships),
+    )
 
 module _ (b : List ℕ) (S : State) (h : Holds b S) where
   -- "The charge .. is the sum": the bytes of the heap in use

@@ -16,7 +16,8 @@ use Rattle.model.proofs.Lists.{each-append}
 use Rattle.model.proofs.KindLaws.{Lawful, item-lawful, default-lawful, override-lawful, relationship-lawful}
 use Rattle.store.specs.Layout.{slotCount}
 use Rattle.store.specs.Rows.{Row, rowSize}
-use Rattle.contract.specs.Rows.{itemRow, defaultRow, overrideRow, relationshipRow, setOf, setKey, rowKey, RowKind, itemRows, defaultRows, overrideRows, relationshipRows, entryRows, otherRows, rowsFor}
+use Rattle.contract.specs.Rows.{itemRow, defaultRow, overrideRow, relationshipRow, setOf, setKey, rowKey, RowKind, itemRows}
+use Rattle.contract.specs.Rows.{defaultRows, overrideRows, relationshipRows, entryRows, otherRows, rowsFor}
 use Rattle.contract.proofs.RowLists.{each-of}
 use Rattle.contract.proofs.RowKeys.{item-row-key, item-row-set, default-row-key, default-row-set, override-row-key, override-row-set, relationship-row-key, relationship-row-set}
 
@@ -69,8 +70,15 @@ pub length-rows : (S : State) →
     length (rowsFor S) ≡ length (S .items) + (length (S .defaults) + (length (S .overrides) + length (S .relationships)))
 unfolding rowsFor otherRows
 length-rows S =
-    rw (length-append, length-append, length-append, length-map (S .items) itemRow, length-map (S .defaults) defaultRow,
-    length-map (S .overrides) overrideRow, length-map (S .relationships) relationshipRow)
+    rw (
+      length-append,
+      length-append,
+      length-append,
+      length-map (S .items) itemRow,
+      length-map (S .defaults) defaultRow,
+      length-map (S .overrides) overrideRow,
+      length-map (S .relationships) relationshipRow,
+    )
 
 pub free-slot : (S : State) → Good S →
     length (S .items) + length (S .defaults) + length (S .overrides) + length (S .relationships) < slotCount →

@@ -1,9 +1,9 @@
 // Searching the rows of a package: they stand in the order of their keys.
-use crate::DEFAULTS;
 use crate::DEFAULT_TAG;
+use crate::DEFAULTS;
 use crate::ITEMS;
-use crate::OVERRIDES;
 use crate::OVERRIDE_TAG;
+use crate::OVERRIDES;
 use crate::RELATIONSHIPS;
 use chars::folding::Order;
 use chars::folding::compare;

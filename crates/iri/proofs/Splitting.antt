@@ -17,7 +17,8 @@ use Rattle.base.proofs.Lists.{take-rest}
 use Rattle.chars.proofs.Searches.{first-le, index-le}
 use Rattle.chars.proofs.UnitLengths.{passes-lt}
 use Rattle.names.specs.Iris.{schemeEnd, colonFirst}
-use Rattle.iri.specs.Components.{schemeLength, authorityLength, afterScheme, afterAuthority, pathLength, afterPath, schemeOf, authorityOf, pathOf, queryOf, fragmentOf, ComponentsReturn, recompose}
+use Rattle.iri.specs.Components.{schemeLength, authorityLength, afterScheme, afterAuthority, pathLength, afterPath, schemeOf}
+use Rattle.iri.specs.Components.{authorityOf, pathOf, queryOf, fragmentOf, ComponentsReturn, recompose}
 use Rattle.iri.specs.Scratch.{SplitAt}
 
 -- a byte that is not 0 lies within s

@@ -5,8 +5,8 @@ use crate::wanted::asked;
 use crate::wanted::item_row;
 use crate::wanted::strict;
 use contract::CAPACITY_LIMIT;
-use contract::ITEMS;
 use contract::ITEM_LIMIT;
+use contract::ITEMS;
 use contract::OVERHEAD;
 use contract::answers::Did;
 use contract::answers::Found;
@@ -49,7 +49,18 @@ pub fn put_item(pkg: &mut [u8], name: &[u8], bytes: &[u8]) -> Did
         Wanted::Named(n, t) => {
             let r = bound(pkg, ITEMS, &name[..n], t, b"");
             let own = misfit_of(pkg, name, n, t, r, item_count(pkg));
-            put_at(pkg, r, own, ITEMS, ITEM_LIMIT, t, &name[..n], &name[n..], bytes, b"")
+            put_at(
+                pkg,
+                r,
+                own,
+                ITEMS,
+                ITEM_LIMIT,
+                t,
+                &name[..n],
+                &name[n..],
+                bytes,
+                b"",
+            )
         }
     }
 }

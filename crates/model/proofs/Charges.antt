@@ -13,8 +13,11 @@ use Rattle.model.proofs.KindLaws.{Lawful}
 
 module _ {E : Type 0} (kind : Kind E) (L : Lawful kind) (S : State) where
   pub charge-put : (e : E) → charge (putIn kind S e) ≡ charge S + kind .charge e
-  charge-put e = omega (arith, L .charged S (insert (kind .key) e (kind .entries S)),
-      sum-insert (kind .key) (kind .charge) e (kind .entries S))
+  charge-put e = omega (
+    arith,
+    L .charged S (insert (kind .key) e (kind .entries S)),
+    sum-insert (kind .key) (kind .charge) e (kind .entries S),
+  )
 
   -- "Freed charge is usable again."
   pub charge-drop : (k : Key) (e : E) → lookup (kind .key) k (kind .entries S) ≡ some e → charge (takenOut kind S k) + kind .charge e
@@ -23,5 +26,8 @@ module _ {E : Type 0} (kind : Kind E) (L : Lawful kind) (S : State) where
       omega (arith, L .charged S (remove (kind .key) k (kind .entries S)), sum-removed (kind .key) (kind .charge) k (kind .entries S) e h)
 
   pub charge-drop-le : (k : Key) → charge (takenOut kind S k) ≤ charge S
-  charge-drop-le k = omega (arith, L .charged S (remove (kind .key) k (kind .entries S)),
-      sum-remove (kind .key) (kind .charge) k (kind .entries S))
+  charge-drop-le k = omega (
+    arith,
+    L .charged S (remove (kind .key) k (kind .entries S)),
+    sum-remove (kind .key) (kind .charge) k (kind .entries S),
+  )

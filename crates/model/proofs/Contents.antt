@@ -39,6 +39,6 @@ module _ {E : Type 0} where
   pub read-piece :
       (room offset : ℕ) (piece rest : List E) →
       take room (drop offset (piece ++ rest)) ≡ take room (drop offset piece) ++ take (room - length (drop offset piece))
-          (drop (offset - length piece) rest)
+      (drop (offset - length piece) rest)
   read-piece room offset piece rest = ap (take room) (drop-append offset piece rest)
       ∙ take-append room (drop offset piece) (drop (offset - length piece) rest)

@@ -71,9 +71,10 @@ module _ (S : State) (name bytes other : Bytes) (n : sameKey (itemKey other) (it
 
 pub puts-keep-others : PutsKeepOthers
 unfolding change
-puts-keep-others room S name bytes other n =
-    (either (Find other) (eqb (putItemRefusal S name bytes) 0) (find-other S name bytes other n),
-        either (View other) (eqb (putItemRefusal S name bytes) 0) (view-other S name bytes other n))
+puts-keep-others room S name bytes other n = (
+  either (Find other) (eqb (putItemRefusal S name bytes) 0) (find-other S name bytes other n),
+  either (View other) (eqb (putItemRefusal S name bytes) 0) (view-other S name bytes other n),
+)
   where
     either :
         (q : Look) (b : Bool) → look (changeMade S (PutItem name bytes)) q ≡ look S q →

@@ -25,7 +25,7 @@ pub prefix-few : (S : State) → Good S → (i : ℕ) (d : Item) → i < length 
 prefix-few S g i d l =
     let x = getD (S .items) i d in
     part-name-size (prefixOf (x .name))
-        (each-at (λ (y : Item). partName (prefixOf (y .name)) ≡ true) (S .items) i d l (prefixes-named S g)) .1
+    (each-at (λ (y : Item). partName (prefixOf (y .name)) ≡ true) (S .items) i d l (prefixes-named S g)) .1
 
 -- a media type
 abbrev Sized : Bytes → Type 0
@@ -69,4 +69,4 @@ type-size S g name t = by-override (lookup keyOfOverride (nameKey name) (S .over
     by-override (some o) e f =
         subst Sized (Option·some-injective (o .type) t f)
         (override-size o (lookup-each keyOfOverride (λ (x : Override). overrideKind .fields x ≡ 0) (nameKey name) (S .overrides) o
-            (g .overrides .fielded) e))
+        (g .overrides .fielded) e))

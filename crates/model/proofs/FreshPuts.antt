@@ -21,7 +21,8 @@ use Rattle.names.specs.declared.items.ItemName.the-variants.{Named, Refused}
 use Rattle.output.specs.Answers.{Answer, Text, filled}
 use Rattle.model.specs.Sets.{Bytes, Key, before, sameKey, any, filter, lookup, insert, Each}
 use Rattle.model.specs.Fields.{first, prefixOf, suffixOf, itemField, overrideFields}
-use Rattle.model.specs.Package.{Item, Default, Override, State, itemKind, defaultKind, overrideKind, itemKey, nameKey, keyOfItem, keyOfDefault, keyOfOverride, rank, group, isPart, content, disagrees, extensionOf, mediaTypeOf}
+use Rattle.model.specs.Package.{Item, Default, Override, State, itemKind, defaultKind, overrideKind, itemKey, nameKey, keyOfItem}
+use Rattle.model.specs.Package.{keyOfDefault, keyOfOverride, rank, group, isPart, content, disagrees, extensionOf, mediaTypeOf}
 use Rattle.model.specs.Calls.{PutItem, Print, ReadPart, MediaType, printed, changed, changeMade, change, putRefusal, putIn, misfits, putItemRefusal, putDefaultRefusal, putOverrideRefusal}
 use Rattle.model.specs.Demand.{OverridesAnswer, DefaultsAnswer, WholeItemsAreParts}
 use Rattle.base.proofs.Bools.{not-passing}
@@ -68,7 +69,7 @@ module _ (S : State) (new : Default) (name : Bytes) (h : putRefusal defaultKind 
       lookup keyOfDefault (nameKey (extensionOf name)) (putIn defaultKind S new .defaults) ≡ some new
   default-found q =
       ap (λ (t : Bytes). lookup keyOfDefault (t, []) (putIn defaultKind S new .defaults))
-          (equivalent-fold (extensionOf name) (new .extension) q)
+      (equivalent-fold (extensionOf name) (new .extension) q)
       ∙ put-found defaultKind S new [] h
 
   default-type :
@@ -109,10 +110,10 @@ module _ (S : State) (name bytes : Bytes) (w : suffixOf name ≡ Whole) (h : put
   alone =
       let p₁₂ : 0 < 12 = omega arith in
       each-both Free Agree (λ (i : Item). alike (prefixOf name) i ≡ false) (S .items)
-          (λ i f a. not-passing (alike (prefixOf name) i) (both i f a))
+      (λ i f a. not-passing (alike (prefixOf name) i) (both i f a))
       (put-free itemKind S new own h)
       (any-filter-none (λ (i : Item). disagrees (suffixOf name) (suffixOf (i .name))) (alike (prefixOf name)) (S .items)
-          (unmet _ 12 p₁₂ (put-own itemKind S new own h .0)))
+      (unmet _ 12 p₁₂ (put-own itemKind S new own h .0)))
     where
       Free : Item → Type 0
       Free i = sameKey (itemKey name) (keyOfItem i) ≡ false
@@ -129,7 +130,7 @@ module _ (S : State) (name bytes : Bytes) (w : suffixOf name ≡ Whole) (h : put
       both i f a e =
           true≢false
           (sym (one-item-key name (i .name) (equivalent-sym (prefixOf (i .name)) (prefixOf name) e)
-              (ranked (suffixOf name) (suffixOf (i .name)) w (a e))) ∙ f)
+          (ranked (suffixOf name) (suffixOf (i .name)) w (a e))) ∙ f)
 
   -- its prefix is its whole name
   itself : prefixOf name ≡ name
@@ -139,7 +140,7 @@ module _ (S : State) (name bytes : Bytes) (w : suffixOf name ≡ Whole) (h : put
       go : (m : ItemName) → itemName name ≡ m → itemRefusal m ≡ 0 → prefixOf name ≡ name
       go (Named n x) e f =
           prefix-named name n x e ∙ ap (λ (k : ℕ). take k name) (prefix-part name n x e .2 (sym (suffix-named name n x e) ∙ w))
-              ∙ take-length name
+          ∙ take-length name
       go (Refused k) e f = absurd (refused-number name k e f)
 
   group-new : group name (changeMade S (PutItem name bytes) .items) ≡ (record { name = name; bytes = bytes }) ∷ []
@@ -147,7 +148,7 @@ module _ (S : State) (name bytes : Bytes) (w : suffixOf name ≡ Whole) (h : put
   group-new =
       ap (λ (p : Bytes). filter (alike p) (changeMade S (PutItem name bytes) .items)) (sym itself)
       ∙ filter-insert keyOfItem (alike (prefixOf name)) (record { name = name; bytes = bytes }) (S .items)
-          (equivalent-refl (prefixOf name)) alone
+      (equivalent-refl (prefixOf name)) alone
 
   named : partName name ≡ true
   unfolding putItemRefusal

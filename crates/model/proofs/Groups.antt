@@ -94,8 +94,13 @@ lead-small x e = go (ltb x tilde) refl
     go true f = ltb-true x tilde f
     go false f =
         let l : 126 ≤ x = ltb-false x tilde f in
-        absurd (true≢false (sym e ∙ rw (le-leb 65 x (omega arith), lt-leb x 90 (omega arith), le-leb 97 x (omega arith),
-            lt-leb x 122 (omega arith), ne-eqb x underscore (λ z. omega arith))))
+        absurd (true≢false (sym e ∙ rw (
+          le-leb 65 x (omega arith),
+          lt-leb x 90 (omega arith),
+          le-leb 97 x (omega arith),
+          lt-leb x 122 (omega arith),
+          ne-eqb x underscore (λ z. omega arith),
+        )))
 
 id-before : (i : Bytes) → identifier i ≡ true → order i (tilde ∷ []) ≡ Less
 unfolding order
@@ -114,9 +119,9 @@ pub source-between :
 unfolding keyOrder thenBy equivalent
 source-between s rs o z =
     filter-between p q eqv rs (not-before-monotone keyOfRelationship (fold s, []) rs o)
-        (not-before-monotone keyOfRelationship (fold s, tilde ∷ []) rs o)
+    (not-before-monotone keyOfRelationship (fold s, tilde ∷ []) rs o)
     (each-map (λ (r : Relationship). relationshipKind .fields r ≡ 0) (Parted p q eqv) rs
-        (λ r h. parted r (id-before (r .id) (relationship-id r h))) z)
+    (λ r h. parted r (id-before (r .id) (relationship-id r h))) z)
   where
     p : Relationship → Bool
     p r = not (before (keyOfRelationship r) (fold s, []))
@@ -142,10 +147,10 @@ pub group-numbered : (p : Bytes) (xs : List Item) → Sorted keyOfItem xs →
 unfolding group order
 group-numbered p xs s =
     pairs-filter (λ (i j : Item). before (keyOfItem i) (keyOfItem j) ≡ true)
-        (λ (i j : Item). rank (suffixOf (i .name)) < rank (suffixOf (j .name))) (alike p) xs
+    (λ (i j : Item). rank (suffixOf (i .name)) < rank (suffixOf (j .name))) (alike p) xs
     (λ i j a b l. number-less (rank (suffixOf (i .name))) (rank (suffixOf (j .name)))
     (goes-on-less (keyOfItem i) (keyOfItem j) l (equivalent-fold (prefixOf (i .name)) p a
-        ∙ sym (equivalent-fold (prefixOf (j .name)) p b))))
+    ∙ sym (equivalent-fold (prefixOf (j .name)) p b))))
     s
 
 -- the relationships of a source stand "by id bytes"
@@ -153,7 +158,7 @@ pub source-by-id : (s : Bytes) (rs : List Relationship) → Sorted keyOfRelation
     AllPairs (λ (q r : Relationship). order (q .id) (r .id) ≡ Less) (ofSource s rs)
 source-by-id s rs o =
     pairs-filter (λ (q r : Relationship). before (keyOfRelationship q) (keyOfRelationship r) ≡ true)
-        (λ (q r : Relationship). order (q .id) (r .id) ≡ Less)
+    (λ (q r : Relationship). order (q .id) (r .id) ≡ Less)
     (λ (r : Relationship). equivalent (r .source) s) rs
     (λ q r a b l. goes-on-less (keyOfRelationship q) (keyOfRelationship r) l (equivalent-fold (q .source) s a
-        ∙ sym (equivalent-fold (r .source) s b))) o
+    ∙ sym (equivalent-fold (r .source) s b))) o

@@ -9,7 +9,10 @@ use Rattle.output.specs.Answers.{Answer}
 use Rattle.model.specs.Sets.{held, lookup, insert, remove, Each}
 use Rattle.model.specs.Fields.{when, suffixOf, last, extensionField, partField, sourceField, idField, defaultFields, overrideFields, relationshipFields}
 use Rattle.model.specs.Package.{Item, Default, Override, Relationship, State, itemAt, sameLast, Kind, itemKind, defaultKind, overrideKind, relationshipKind, keyOfItem}
-use Rattle.model.specs.Calls.{Change, PutItem, DropItem, PutDefault, DropDefault, PutOverride, DropOverride, PutRelationship, DropRelationship, done, changed, change, changeRefusal, changeMade, putRefusal, dropRefusal, putIn, takenOut, misfits, putItemRefusal, putDefaultRefusal, putOverrideRefusal, putRelationshipRefusal, dropItemRefusal, dropDefaultRefusal, dropOverrideRefusal, dropRelationshipRefusal}
+use Rattle.model.specs.Calls.{Change, PutItem, DropItem, PutDefault, DropDefault, PutOverride, DropOverride, PutRelationship}
+use Rattle.model.specs.Calls.{DropRelationship, done, changed, change, changeRefusal, changeMade, putRefusal, dropRefusal, putIn}
+use Rattle.model.specs.Calls.{takenOut, misfits, putItemRefusal, putDefaultRefusal, putOverrideRefusal, putRelationshipRefusal}
+use Rattle.model.specs.Calls.{dropItemRefusal, dropDefaultRefusal, dropOverrideRefusal, dropRelationshipRefusal}
 use Rattle.model.specs.Demand.{dropOf, IsPut}
 use Rattle.model.proofs.Lists.{each-append}
 use Rattle.model.proofs.Sets.{remove-insert}
@@ -64,8 +67,10 @@ undone S (DropItem name) p h = absurd p
 undone S (PutDefault extension type) p h =
     let new : Default = record { extension = extension; type = type } in
     undo defaultKind default-lawful S new [] h (DropDefault extension)
-    (drop-met defaultKind default-lawful S new [] h (extensionField extension ∷ []) (all-none _ (put-fields defaultKind S new [] h) .0,
-        tt)) refl
+    (drop-met defaultKind default-lawful S new [] h (extensionField extension ∷ []) (
+      all-none _ (put-fields defaultKind S new [] h) .0,
+      tt,
+    )) refl
 undone S (DropDefault extension) p h = absurd p
 undone S (PutOverride name type) p h =
     let new : Override = record { name = name; type = type } in

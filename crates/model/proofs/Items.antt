@@ -50,7 +50,7 @@ pub one-item-key : (s t : Bytes) → equivalent (prefixOf s) (prefixOf t) ≡ tr
     sameKey (itemKey s) (itemKey t) ≡ true
 one-item-key s t e r =
     same-item-key s t ∙ and-true (equivalent (prefixOf s) (prefixOf t)) (eqb (rank (suffixOf s)) (rank (suffixOf t))) e
-        (eq-eqb (rank (suffixOf s)) (rank (suffixOf t)) r)
+    (eq-eqb (rank (suffixOf s)) (rank (suffixOf t)) r)
 
 module _ (i j : Item) (free : sameKey (itemKey (i .name)) (itemKey (j .name)) ≡ false) where
   ranks-differ : equivalent (prefixOf (i .name)) (prefixOf (j .name)) ≡ true → rank (suffixOf (i .name)) ≡ rank (suffixOf (j .name)) → ⊥

@@ -11,7 +11,8 @@ use borrow.Author.Tests.{leb-true}
 use Rattle.output.specs.Answers.{answer, choose, Outcome, Text, Refused, filled}
 use Rattle.model.specs.Sets.{Bytes}
 use Rattle.model.specs.Package.{State, empty}
-use Rattle.model.specs.Calls.{Look, Find, View, Totals, Change, Call, Start, Looks, Changes, Prints, done, refused, pick, changed, startRefusal, askedRefusal, changeRefusal, changeMade, look, change, printed, valueCount, step, lent}
+use Rattle.model.specs.Calls.{Look, Find, View, Totals, Change, Call, Start, Looks, Changes, Prints, done, refused, pick, changed}
+use Rattle.model.specs.Calls.{startRefusal, askedRefusal, changeRefusal, changeMade, look, change, printed, valueCount, step, lent}
 use Rattle.output.proofs.Answering.{filled-kept}
 
 changed-kept : (n : ℕ) (S T : State) → (changed n S T .0 .number ≡ 0 → ⊥) → (changed n S T .1 ≡ S) × (changed n S T .0 .output ≡ [])
@@ -57,6 +58,6 @@ output-length n out (Text t more) = go (leb (length t) (length out)) refl
   where
     go : (b : Bool) → leb (length t) (length out) ≡ b →
         length (choose b (answer 0 (length t ∷ more) (t ++ drop (length t) out)) (answer 3 (length t ∷ replicate (n - 1) 0) out) .output)
-            ≡ length out
+        ≡ length out
     go true e = simp (length-append, length-drop) (omega (arith, leb-true (length t) (length out) e))
     go false e = refl

@@ -38,7 +38,7 @@ key-trans a b c h k = go (order (a .0) (b .0)) refl (order (b .0) (c .0)) refl h
   where
     go :
         (o : Order) → order (a .0) (b .0) ≡ o → (o′ : Order) → order (b .0) (c .0) ≡ o′ → thenBy o (order (a .1) (b .1)) ≡ Less →
-            thenBy o′ (order (b .1) (c .1)) ≡ Less →
+        thenBy o′ (order (b .1) (c .1)) ≡ Less →
         thenBy (order (a .0) (c .0)) (order (a .1) (c .1)) ≡ Less
     go Less e Less f h k = rw (order-trans (a .0) (b .0) (c .0) e f)
     go Less e Equal f h k = rw (← order-equal (b .0) (c .0) f, e)
@@ -139,4 +139,4 @@ pub goes-on-less : (a b : Key) → before a b ≡ true → a .0 ≡ b .0 → ord
 unfolding keyOrder thenBy
 goes-on-less a b h e =
     sym (ap (λ (o : Order). thenBy o (order (a .1) (b .1))) (ap (λ (s : Bytes). order s (b .0)) e ∙ order-refl (b .0)))
-        ∙ is-less (keyOrder a b) h
+    ∙ is-less (keyOrder a b) h

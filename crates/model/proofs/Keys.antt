@@ -63,8 +63,8 @@ pub same-item-key : (s t : Bytes) → sameKey (itemKey s) (itemKey t)
 unfolding equivalent same
 same-item-key s t =
     same-key (itemKey s) (itemKey t)
-        ∙ ap (λ (b : Bool). same (fold (prefixOf s)) (fold (prefixOf t)) && b)
-        (and-right-true (eqb (rank (suffixOf s)) (rank (suffixOf t))))
+    ∙ ap (λ (b : Bool). same (fold (prefixOf s)) (fold (prefixOf t)) && b)
+    (and-right-true (eqb (rank (suffixOf s)) (rank (suffixOf t))))
 
 pub same-relationship-key : (s i t j : Bytes) → sameKey (relationshipKey s i) (relationshipKey t j) ≡ equivalent s t && same i j
 unfolding equivalent

@@ -32,8 +32,13 @@ item-lawful = record {
   charged = λ S l. omega arith;
   set = λ S g. g .items;
   good = λ S l g s w b. record {
-    capacity = g .capacity; within = w; items = s; beside = b;
-    defaults = g .defaults; overrides = g .overrides; relationships = g .relationships;
+    capacity = g .capacity;
+    within = w;
+    items = s;
+    beside = b;
+    defaults = g .defaults;
+    overrides = g .overrides;
+    relationships = g .relationships;
   };
 }
 
@@ -47,8 +52,13 @@ default-lawful = record {
   charged = λ S l. omega arith;
   set = λ S g. g .defaults;
   good = λ S l g s w b. record {
-    capacity = g .capacity; within = w; items = g .items; beside = b;
-    defaults = s; overrides = g .overrides; relationships = g .relationships;
+    capacity = g .capacity;
+    within = w;
+    items = g .items;
+    beside = b;
+    defaults = s;
+    overrides = g .overrides;
+    relationships = g .relationships;
   };
 }
 
@@ -62,8 +72,13 @@ override-lawful = record {
   charged = λ S l. omega arith;
   set = λ S g. g .overrides;
   good = λ S l g s w b. record {
-    capacity = g .capacity; within = w; items = g .items; beside = b;
-    defaults = g .defaults; overrides = s; relationships = g .relationships;
+    capacity = g .capacity;
+    within = w;
+    items = g .items;
+    beside = b;
+    defaults = g .defaults;
+    overrides = s;
+    relationships = g .relationships;
   };
 }
 
@@ -77,7 +92,12 @@ relationship-lawful = record {
   charged = λ S l. omega arith;
   set = λ S g. g .relationships;
   good = λ S l g s w b. record {
-    capacity = g .capacity; within = w; items = g .items; beside = b;
-    defaults = g .defaults; overrides = g .overrides; relationships = s;
+    capacity = g .capacity;
+    within = w;
+    items = g .items;
+    beside = b;
+    defaults = g .defaults;
+    overrides = g .overrides;
+    relationships = s;
   };
 }

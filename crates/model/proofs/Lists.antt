@@ -65,8 +65,10 @@ module _ {E : Type 0} where
 
   pub pairs-both : (R Q : E → E → Type 0) (xs : List E) → AllPairs R xs → AllPairs Q xs → AllPairs (λ (x y : E). R x y × Q x y) xs
   pairs-both R Q [] a b = tt
-  pairs-both R Q (x ∷ xs) a b = (each-both (R x) (Q x) (λ (y : E). R x y × Q x y) xs (λ y p q. (p, q)) (a .0) (b .0),
-      pairs-both R Q xs (a .1) (b .1))
+  pairs-both R Q (x ∷ xs) a b = (
+    each-both (R x) (Q x) (λ (y : E). R x y × Q x y) xs (λ y p q. (p, q)) (a .0) (b .0),
+    pairs-both R Q xs (a .1) (b .1),
+  )
 
   -- what holds of each, held together for every two
   pub pairs-each : (P : E → Type 0) (xs : List E) → Each P xs → AllPairs (λ (x y : E). P x × P y) xs
@@ -168,7 +170,7 @@ module _ {E : Type 0} where
       go :
           (b : Bool) → q x ≡ b → any p (cond b (x ∷ filter q xs) (filter q xs)) ≡ false →
           (any p (filter q xs) ≡ false → Each (λ (y : E). q y ≡ true → p y ≡ false) xs) →
-              (q x ≡ true → p x ≡ false) × Each (λ (y : E). q y ≡ true → p y ≡ false) xs
+          (q x ≡ true → p x ≡ false) × Each (λ (y : E). q y ≡ true → p y ≡ false) xs
       go true e h k = ((λ f. or-false-left (p x) (any p (filter q xs)) h), k (or-false-right (p x) (any p (filter q xs)) h))
       go false e h k = ((λ f. absurd (true≢false (sym f ∙ e))), k h)
 

@@ -54,7 +54,7 @@ module _ {E : Type 0} (key : E → Key) where
       go true e h =
           past-none k xs
           (each-map (λ (y : E). before (key x) (key y) ≡ true) (λ (y : E). before k (key y) ≡ true) xs
-              (λ y l. same-before k (key x) (key y) e l) (s .0))
+          (λ y l. same-before k (key x) (key y) e l) (s .0))
       go false e h = rw e h
 
   lookup-head : (k : Key) (x : E) (xs : List E) → sameKey k (key x) ≡ true → lookup key k (x ∷ xs) ≡ some x
@@ -79,9 +79,11 @@ module _ {E : Type 0} (key : E → Key) where
       not-before a b aa bs s h l =
           Option·none-ne-some a
           (sym
-          (past-none (key a) (b ∷ bs)
-          (l, each-map (λ (z : E). before (key b) (key z) ≡ true) (λ (z : E). before (key a) (key z) ≡ true) bs
-              (λ z m. before-trans (key a) (key b) (key z) l m) (s .0)))
+          (past-none (key a) (b ∷ bs) (
+            l,
+            each-map (λ (z : E). before (key b) (key z) ≡ true) (λ (z : E). before (key a) (key z) ≡ true) bs
+                (λ z m. before-trans (key a) (key b) (key z) l m) (s .0),
+          ))
           ∙ sym (h (key a)) ∙ lookup-head (key a) a aa (same-key-refl (key a)))
 
       one-key : (b c : Bool) → before (key x) (key y) ≡ b → sameKey (key x) (key y) ≡ c → sameKey (key x) (key y) ≡ true
@@ -93,7 +95,7 @@ module _ {E : Type 0} (key : E → Key) where
       heads =
           Option·some-injective x y
           (sym (lookup-head (key x) x xs (same-key-refl (key x))) ∙ h (key x)
-              ∙ lookup-head (key x) y ys (one-key (before (key x) (key y)) (sameKey (key x) (key y)) refl refl))
+          ∙ lookup-head (key x) y ys (one-key (before (key x) (key y)) (sameKey (key x) (key y)) refl refl))
 
       tails : (k : Key) → lookup key k xs ≡ lookup key k ys
       tails k = go (sameKey k (key x)) refl
@@ -101,7 +103,7 @@ module _ {E : Type 0} (key : E → Key) where
           go : (b : Bool) → sameKey k (key x) ≡ b → lookup key k xs ≡ lookup key k ys
           go true e =
               past-none k xs (each-map (λ (z : E). before (key x) (key z) ≡ true) (λ (z : E). before k (key z) ≡ true) xs
-                  (λ z l. same-before k (key x) (key z) e l) (s .0))
+              (λ z l. same-before k (key x) (key z) e l) (s .0))
               ∙ sym
               (past-none k ys
               (each-map (λ (z : E). before (key y) (key z) ≡ true) (λ (z : E). before k (key z) ≡ true) ys
@@ -137,7 +139,7 @@ module _ {E : Type 0} (key : E → Key) where
     where
       go :
           (b : Bool) → cond b (some x) (lookup key k xs) ≡ some e →
-              (lookup key k xs ≡ some e → sumOf f (remove key k xs) + f e ≡ sumOf f xs) →
+          (lookup key k xs ≡ some e → sumOf f (remove key k xs) + f e ≡ sumOf f xs) →
           sumOf f (cond b xs (x ∷ remove key k xs)) + f e ≡ f x + sumOf f xs
       go true l h = let m : x ≡ e = cc in omega (arith, ap f m)
       go false l h = omega (arith, h l)

@@ -76,7 +76,7 @@ module _ (name : Bytes) where
     clashing-below : Beside i j → before (keyOfItem j) (itemKey name) ≡ true → clashing name i ≡ true → clashing name j ≡ true
     clashing-below r k c =
         let i-n : fold (prefixOf (i .name)) ≡ fold (prefixOf name) =
-            equivalent-fold (prefixOf (i .name)) (prefixOf name) (and-left (alike (prefixOf name) i) _ c) in
+        equivalent-fold (prefixOf (i .name)) (prefixOf name) (and-left (alike (prefixOf name) i) _ c) in
         let i-j : fold (prefixOf (i .name)) ≡ fold (prefixOf (j .name)) = between (keyOfItem i) (keyOfItem j) (itemKey name) l k i-n in
         clashes j (sym i-j ∙ i-n)
         (disagrees-behind (suffixOf name) (suffixOf (i .name)) (suffixOf (j .name)) (ranks (i .name) (j .name) l i-j)
@@ -86,11 +86,11 @@ module _ (name : Bytes) where
     clashing-above : before (itemKey name) (keyOfItem i) ≡ true → clashing name j ≡ true → clashing name i ≡ true
     clashing-above k c =
         let j-n : fold (prefixOf (j .name)) ≡ fold (prefixOf name) =
-            equivalent-fold (prefixOf (j .name)) (prefixOf name) (and-left (alike (prefixOf name) j) _ c) in
+        equivalent-fold (prefixOf (j .name)) (prefixOf name) (and-left (alike (prefixOf name) j) _ c) in
         let n-i : fold (prefixOf name) ≡ fold (prefixOf (i .name)) = between (itemKey name) (keyOfItem i) (keyOfItem j) k l (sym j-n) in
         clashes i (sym n-i)
         (disagrees-between (suffixOf name) (suffixOf (i .name)) (suffixOf (j .name)) (ranks name (i .name) k n-i)
-            (ranks (i .name) (j .name) l (sym n-i ∙ sym j-n))
+        (ranks (i .name) (j .name) l (sym n-i ∙ sym j-n))
         (and-right (alike (prefixOf name) j) _ c))
 
   module _ (xs : List Item) (s : Sorted keyOfItem xs) (b : AllPairs Beside xs) (free : Absent keyOfItem (itemKey name) xs) (d : Item) where
@@ -114,7 +114,7 @@ module _ (name : Bytes) where
     unfolding n
     below =
         each-both (λ (i : Item). before (itemKey name) (keyOfItem i) ≡ false) (λ (i : Item). sameKey (itemKey name) (keyOfItem i)
-            ≡ false) Below (take n xs)
+        ≡ false) Below (take n xs)
         (λ i l k. before-turn (itemKey name) (keyOfItem i) l k) (first-fails (λ (i : Item). before (itemKey name) (keyOfItem i)) xs)
         (each-take (λ (i : Item). sameKey (itemKey name) (keyOfItem i) ≡ false) n xs free)
 
@@ -126,21 +126,21 @@ module _ (name : Bytes) where
     lower =
         any-last (clashing name) (take n xs) d
         (pairs-map (λ (i j : Item). (Ordered i j × Beside i j) × (Below i × Below j)) (λ (i j : Item). clashing name i ≡ true →
-            clashing name j ≡ true) (take n xs)
+        clashing name j ≡ true) (take n xs)
         (λ i j h c. clashing-below i j (h .0 .0) (h .0 .1) (h .1 .1) c)
         (pairs-both (λ (i j : Item). Ordered i j × Beside i j) (λ (i j : Item). Below i × Below j) (take n xs)
         (pairs-both Ordered Beside (take n xs) (pairs-take Ordered n xs s) (pairs-take Beside n xs b))
-            (pairs-each Below (take n xs) below)))
+        (pairs-each Below (take n xs) below)))
         ∙ last-of-take (clashing name) n xs d n-le
 
     upper : any (clashing name) (drop n xs) ≡ (ltb n (length xs) && clashing name (getD xs n d))
     upper =
         any-head (clashing name) (drop n xs) d
         (pairs-map (λ (i j : Item). Ordered i j × (Above i × Above j)) (λ (i j : Item). clashing name j ≡ true → clashing name i ≡ true)
-            (drop n xs)
+        (drop n xs)
         (λ i j h c. clashing-above i j (h .0) (h .1 .0) c)
         (pairs-both Ordered (λ (i j : Item). Above i × Above j) (drop n xs) (pairs-drop Ordered n xs s)
-            (pairs-each Above (drop n xs) above)))
+        (pairs-each Above (drop n xs) above)))
         ∙ head-of-drop (clashing name) n xs d
 
     -- where no item has the key of `name`: its suffix disagrees with some item of its group if and only if it disagrees with one that

@@ -18,9 +18,14 @@ use Rattle.names.specs.declared.items.Suffix.the-variants.{Whole, Piece}
 use Rattle.names.specs.declared.items.ItemName.{ItemName}
 use Rattle.targets.specs.Targets.{internal, resolvePath, sourceRefusal, internalRefusal, targetRefusal}
 use Rattle.model.specs.Sets.{Bytes, Key, held, any, lookup, Each}
-use Rattle.model.specs.Fields.{when, first, prefixOf, suffixOf, askedField, itemField, partField, extensionField, sourceField, idField, packageField, targetField, defaultFields, overrideFields, relationshipFields}
-use Rattle.model.specs.Package.{Item, Default, Override, Relationship, State, Kind, itemKind, defaultKind, overrideKind, relationshipKind, itemKey, nameKey, relationshipKey, keyOfItem, group, disagrees, grows, itemAt}
-use Rattle.model.specs.Calls.{Change, PutItem, DropItem, PutDefault, DropDefault, PutOverride, DropOverride, PutRelationship, DropRelationship, Numbered, noRoom, putRefusal, dropRefusal, misfits, clash, changeRefusal, askedRefusal, putItemRefusal, putDefaultRefusal, putOverrideRefusal, putRelationshipRefusal, dropItemRefusal, dropDefaultRefusal, dropOverrideRefusal, dropRelationshipRefusal}
+use Rattle.model.specs.Fields.{when, first, prefixOf, suffixOf, askedField, itemField, partField, extensionField, sourceField}
+use Rattle.model.specs.Fields.{idField, packageField, targetField, defaultFields, overrideFields, relationshipFields}
+use Rattle.model.specs.Package.{Item, Default, Override, Relationship, State, Kind, itemKind, defaultKind, overrideKind}
+use Rattle.model.specs.Package.{relationshipKind, itemKey, nameKey, relationshipKey, keyOfItem, group, disagrees, grows, itemAt}
+use Rattle.model.specs.Calls.{Change, PutItem, DropItem, PutDefault, DropDefault, PutOverride, DropOverride, PutRelationship}
+use Rattle.model.specs.Calls.{DropRelationship, Numbered, noRoom, putRefusal, dropRefusal, misfits, clash, changeRefusal}
+use Rattle.model.specs.Calls.{askedRefusal, putItemRefusal, putDefaultRefusal, putOverrideRefusal, putRelationshipRefusal}
+use Rattle.model.specs.Calls.{dropItemRefusal, dropDefaultRefusal, dropOverrideRefusal, dropRelationshipRefusal}
 use Rattle.model.proofs.Lists.{each-append}
 
 pub numbered : (n : ℕ) → 2 ≤ n → n ≤ 16 → Numbered n
@@ -86,7 +91,7 @@ target-field-numbered m s t =
     let nine : Numbered 9 = numbered 9 (omega arith) (omega arith) in
     cond-numbered (eqb m 0) (internalRefusal s t) (cond (iri t) 0 9)
     (cond-numbered (internal t && partName (resolvePath s t)) (cond (reserved (resolvePath s t)) 5 0) 9
-        (reserved-numbered (resolvePath s t)) nine)
+    (reserved-numbered (resolvePath s t)) nine)
     (cond-numbered (iri t) 0 9 zero-numbered nine)
 
 -- the tests that stand in several calls
@@ -106,9 +111,10 @@ fifteen : (limit count added : ℕ) (S : State) → Numbered (when (noRoom limit
 fifteen limit count added S = when-numbered (noRoom limit count added S) 15 (omega arith) (omega arith)
 
 misfits-numbered : (s : Bytes) (is : List Item) → Each (λ (n : ℕ). Numbered n) (misfits s is)
-misfits-numbered s is =
-    (when-numbered (any (λ (i : Item). disagrees (suffixOf s) (suffixOf (i .name))) (group (prefixOf s) is)) 12 (omega arith) (omega arith),
-    (when-numbered (any (λ (i : Item). grows (prefixOf s) (prefixOf (i .name))) is) 11 (omega arith) (omega arith), tt))
+misfits-numbered s is = (
+  when-numbered (any (λ (i : Item). disagrees (suffixOf s) (suffixOf (i .name))) (group (prefixOf s) is)) 12 (omega arith) (omega arith),
+  (when-numbered (any (λ (i : Item). grows (prefixOf s) (prefixOf (i .name))) is) 11 (omega arith) (omega arith), tt),
+)
 
 pub clash-numbered : (s : Bytes) (is : List Item) → Numbered (clash s is)
 unfolding clash
@@ -122,8 +128,14 @@ asked-numbered S s = all-numbered _ (asked-field-numbered s, (thirteen (itemAt s
 module _ {E : Type 0} (kind : Kind E) (S : State) where
   put-numbered : (e : E) (own : List ℕ) → Numbered (kind .fields e) → Each (λ (n : ℕ). Numbered n) own → Numbered (putRefusal kind S e own)
   put-numbered e own f o =
-      all-numbered _ (f, (ten (lookup (kind .key) (kind .key e) (kind .entries S)), each-append (λ (n : ℕ). Numbered n) own _ o
-      (fifteen (kind .limit) (length (kind .entries S)) (kind .charge e) S, tt)))
+      all-numbered _ (
+        f,
+        (
+          ten (lookup (kind .key) (kind .key e) (kind .entries S)),
+          each-append (λ (n : ℕ). Numbered n) own _ o
+              (fifteen (kind .limit) (length (kind .entries S)) (kind .charge e) S, tt),
+        ),
+      )
 
   drop-numbered : (fields : List ℕ) (k : Key) → Each (λ (n : ℕ). Numbered n) fields → Numbered (dropRefusal kind S fields k)
   drop-numbered fields k f =
@@ -140,8 +152,16 @@ override-numbered o = all-numbered _ (part-field-numbered (o .name), (seven (not
 relationship-numbered : (r : Relationship) → Numbered (relationshipKind .fields r)
 unfolding relationshipFields
 relationship-numbered r =
-    all-numbered _ (source-field-numbered (r .source), (eight (not (identifier (r .id))), (eight (not (packageIri (r .type))),
-    (eight (not (leb (r .mode) 1)), (target-field-numbered (r .mode) (r .source) (r .target), tt)))))
+    all-numbered _ (
+      source-field-numbered (r .source),
+      (
+        eight (not (identifier (r .id))),
+        (
+          eight (not (packageIri (r .type))),
+          (eight (not (leb (r .mode) 1)), (target-field-numbered (r .mode) (r .source) (r .target), tt)),
+        ),
+      ),
+    )
 
 pub change-numbered : (S : State) (c : Change) → Numbered (changeRefusal S c)
 unfolding putItemRefusal dropItemRefusal putDefaultRefusal dropDefaultRefusal putOverrideRefusal dropOverrideRefusal
@@ -162,5 +182,7 @@ change-numbered S (DropRelationship s i) =
 -- the fields of a resolution, and of a stream's source
 pub resolve-fields-numbered : (s i base : Bytes) → Numbered (first (sourceField s ∷ idField i ∷ packageField base ∷ []))
 resolve-fields-numbered s i base =
-    all-numbered _ (source-field-numbered s,
-        (eight (not (identifier i)), (when-numbered (not (packageIri base)) 9 (omega arith) (omega arith), tt)))
+    all-numbered _ (
+      source-field-numbered s,
+      (eight (not (identifier i)), (when-numbered (not (packageIri base)) 9 (omega arith) (omega arith), tt)),
+    )

@@ -46,7 +46,7 @@ other-group p q xs ys h n =
     filter-append (alike q) xs ys
     ∙ ap (λ (l : List Item). l ++ filter (alike q) ys)
     (filter-none (alike q) xs (each-map (λ (i : Item). alike p i ≡ true) (λ (i : Item). alike q i ≡ false) xs
-        (λ i e. not-passing (alike q i) (both i e)) h))
+    (λ i e. not-passing (alike q i) (both i e)) h))
   where
     both : (i : Item) → alike p i ≡ true → alike q i ≡ true → ⊥
     both i e f = true≢false (sym (fold-equivalent q p (sym (equivalent-fold (prefixOf (i .name)) q f)
@@ -77,7 +77,7 @@ module _ (x : Item) (ys : List Item) (s : Sorted keyOfItem (x ∷ ys)) where
       ∙ leaders-past (prefixOf (x .name)) (take (restOf x ys) ys) (behind x ys) (lead-take (alike (prefixOf (x .name))) ys)
       ∙ filter-all (unlike (prefixOf (x .name))) (leaders (behind x ys))
       (each-map (λ (i : Item). alike (prefixOf (x .name)) i ≡ false) (λ (i : Item). unlike (prefixOf (x .name)) i ≡ true)
-          (leaders (behind x ys)) (λ i e. ap not e)
+      (leaders (behind x ys)) (λ i e. ap not e)
       (each-leaders (λ (i : Item). alike (prefixOf (x .name)) i ≡ false) (behind x ys) behind-apart)))
 
   -- the groups are the runs, one after the other
@@ -86,9 +86,9 @@ module _ (x : Item) (ys : List Item) (s : Sorted keyOfItem (x ∷ ys)) where
       ap (map (λ (i : Item). group (prefixOf (i .name)) (x ∷ ys))) leaders-run
       ∙ ap₂ _∷_ (group-from x (prefixOf (x .name)) (own x) ys s)
       (map-each (λ (i : Item). group (prefixOf (i .name)) (x ∷ ys)) (λ (i : Item). group (prefixOf (i .name)) (behind x ys))
-          (leaders (behind x ys))
+      (leaders (behind x ys))
       (each-leaders Same (behind x ys)
-          (each-map (λ (i : Item). alike (prefixOf (x .name)) i ≡ false) Same (behind x ys) other behind-apart)))
+      (each-map (λ (i : Item). alike (prefixOf (x .name)) i ≡ false) Same (behind x ys) other behind-apart)))
     where
       Same : Item → Type 0
       Same i = group (prefixOf (i .name)) (x ∷ ys) ≡ group (prefixOf (i .name)) (behind x ys)
@@ -97,7 +97,7 @@ module _ (x : Item) (ys : List Item) (s : Sorted keyOfItem (x ∷ ys)) where
       other i e =
           ap (λ (l : List Item). group (prefixOf (i .name)) (x ∷ l)) (sym (take-append-drop (restOf x ys) ys))
           ∙ other-group (prefixOf (x .name)) (prefixOf (i .name)) (x ∷ take (restOf x ys) ys) (behind x ys)
-              (own x, lead-take (alike (prefixOf (x .name))) ys) e
+          (own x, lead-take (alike (prefixOf (x .name))) ys) e
 
   pub parts-run : parts (x ∷ ys) ≡ cond (isPart (x ∷ take (restOf x ys) ys)) ((x ∷ take (restOf x ys) ys) ∷ parts (behind x ys))
       (parts (behind x ys))
@@ -156,10 +156,10 @@ pub parts-named : (S : State) → Good S → Each (λ (g : List Item). Unreserve
 unfolding parts
 parts-named S g =
     each-filter (λ (q : List Item). Unreserved (spelling q)) (λ (q : List Item). Unreserved (spelling q)) isPart (groups (S .items))
-        (λ q e h. h)
+    (λ q e h. h)
     (groups-each Unreserved (length (S .items)) (S .items) (omega arith) (g .items .sorted)
     (each-map (λ (i : Item). itemKind .fields i ≡ 0) (λ (i : Item). Unreserved (prefixOf (i .name))) (S .items)
-        (λ i h. accepted-prefix (i .name) h) (g .items .fielded)))
+    (λ i h. accepted-prefix (i .name) h) (g .items .fielded)))
 
 -- there are no more parts than items
 leaders-few : (xs : List Item) → length (leaders xs) ≤ length xs
@@ -169,5 +169,9 @@ leaders-few (x ∷ xs) = omega (arith, length-filter (unlike (prefixOf (x .name)
 
 pub parts-few : (xs : List Item) → length (parts xs) ≤ length xs
 unfolding parts
-parts-few xs = omega (arith, length-filter isPart (groups xs), length-map (leaders xs) (λ (i : Item). group (prefixOf (i .name)) xs),
-    leaders-few xs)
+parts-few xs = omega (
+  arith,
+  length-filter isPart (groups xs),
+  length-map (leaders xs) (λ (i : Item). group (prefixOf (i .name)) xs),
+  leaders-few xs,
+)

@@ -24,7 +24,7 @@ module _ {E : Type 0} (key : E → Key) where
       go :
           (b : Bool) → insert key e xs ≡ take (place key (key e) xs) xs ++ (e ∷ drop (place key (key e) xs) xs) →
           cond b (e ∷ x ∷ xs) (x ∷ insert key e xs)
-              ≡ take (cond b 0 (suc (place key (key e) xs))) (x ∷ xs) ++ (e ∷ drop (cond b 0 (suc (place key (key e) xs))) (x ∷ xs))
+          ≡ take (cond b 0 (suc (place key (key e) xs))) (x ∷ xs) ++ (e ∷ drop (cond b 0 (suc (place key (key e) xs))) (x ∷ xs))
       go true h = refl
       go false h = ap (λ (l : List E). x ∷ l) h
 
@@ -36,9 +36,9 @@ module _ {E : Type 0} (key : E → Key) where
     where
       go :
           (b : Bool) → cond b 0 (suc (spot key k xs)) < suc (length xs) →
-              (spot key k xs < length xs → remove key k xs ≡ take (spot key k xs) xs ++ drop (suc (spot key k xs)) xs) →
+          (spot key k xs < length xs → remove key k xs ≡ take (spot key k xs) xs ++ drop (suc (spot key k xs)) xs) →
           cond b xs (x ∷ remove key k xs) ≡ take (cond b 0 (suc (spot key k xs))) (x ∷ xs) ++ drop (suc (cond b 0 (suc (spot key k xs))))
-              (x ∷ xs)
+          (x ∷ xs)
       go true l h = refl
       go false l h = ap (λ (r : List E). x ∷ r) (h (omega arith))
 
@@ -49,7 +49,7 @@ module _ {E : Type 0} (key : E → Key) where
     where
       go :
           (b : Bool) → cond b 0 (suc (spot key k xs)) < suc (length xs) →
-              (spot key k xs < length xs → lookup key k xs ≡ some (getD xs (spot key k xs) d)) →
+          (spot key k xs < length xs → lookup key k xs ≡ some (getD xs (spot key k xs) d)) →
           cond b (some x) (lookup key k xs) ≡ some (getD (x ∷ xs) (cond b 0 (suc (spot key k xs))) d)
       go true l h = refl
       go false l h = h (omega arith)
@@ -74,7 +74,7 @@ module _ {E : Type 0} (key : E → Key) where
   not-before-monotone k xs s =
       pairs-map (λ (x y : E). before (key x) (key y) ≡ true) (λ (x y : E). not (before (key x) k) ≡ true → not (before (key y) k) ≡ true) xs
       (λ x y l e. ap not (not-passing (before (key y) k)
-          (λ m. true≢false (sym (before-trans (key x) (key y) k l m) ∙ not-true (before (key x) k) e)))) s
+      (λ m. true≢false (sym (before-trans (key x) (key y) k l m) ∙ not-true (before (key x) k) e)))) s
 
   -- the entry that has the key stands at the bound, or there is none
   pub bound-hit : (k : Key) (xs : List E) (d : E) → Sorted key xs → bound key k xs < length xs →
@@ -85,7 +85,7 @@ module _ {E : Type 0} (key : E → Key) where
     where
       go :
           (b : Bool) → before (key x) k ≡ b → cond (not b) 0 (suc (bound key k xs)) < suc (length xs) →
-              sameKey k (key (getD (x ∷ xs) (cond (not b) 0 (suc (bound key k xs))) d)) ≡ true →
+          sameKey k (key (getD (x ∷ xs) (cond (not b) 0 (suc (bound key k xs))) d)) ≡ true →
           (bound key k xs < length xs → sameKey k (key (getD xs (bound key k xs) d)) ≡ true → spot key k xs ≡ bound key k xs) →
           cond (sameKey k (key x)) 0 (suc (spot key k xs)) ≡ cond (not b) 0 (suc (bound key k xs))
       go true f l e ih = rw (not-passing (sameKey k (key x))
@@ -101,15 +101,15 @@ module _ {E : Type 0} (key : E → Key) where
       go :
           (b : Bool) → before (key x) k ≡ b →
           (cond (not b) 0 (suc (bound key k xs)) < suc (length xs) →
-              sameKey k (key (getD (x ∷ xs) (cond (not b) 0 (suc (bound key k xs))) d)) ≡ false) →
+          sameKey k (key (getD (x ∷ xs) (cond (not b) 0 (suc (bound key k xs))) d)) ≡ false) →
           ((bound key k xs < length xs → sameKey k (key (getD xs (bound key k xs) d)) ≡ false) → lookup key k xs ≡ none) →
-              cond (sameKey k (key x)) (some x) (lookup key k xs) ≡ none
+          cond (sameKey k (key x)) (some x) (lookup key k xs) ≡ none
       go true f e ih = rw (not-passing (sameKey k (key x)) (λ q. true≢false (sym (same-key-sym k (key x) q) ∙ before-not-same (key x) k f)))
           (ih (λ l. e (omega arith)))
       go false f e ih =
           let n : sameKey k (key x) ≡ false = e (omega arith) in
           let g : before k (key x) ≡ true =
-              before-turn (key x) k f (not-passing (sameKey (key x) k) (λ q. true≢false (sym (same-key-sym (key x) k q) ∙ n))) in
+          before-turn (key x) k f (not-passing (sameKey (key x) k) (λ q. true≢false (sym (same-key-sym (key x) k q) ∙ n))) in
           rw n (none-behind xs (s .0) g)
         where
           none-behind : (ys : List E) → Each (λ (y : E). before (key x) (key y) ≡ true) ys → before k (key x) ≡ true →

@@ -20,10 +20,10 @@ module _ {E R : Type 0} (key : E → Key) (f : E → R) where
     where
       go :
           (t : Bool) → map f (insert key e xs) ++ b
-              ≡ take (place key (key e) xs) (map f xs ++ b) ++ (f e ∷ drop (place key (key e) xs) (map f xs ++ b)) →
+          ≡ take (place key (key e) xs) (map f xs ++ b) ++ (f e ∷ drop (place key (key e) xs) (map f xs ++ b)) →
           map f (cond t (e ∷ x ∷ xs) (x ∷ insert key e xs)) ++ b
           ≡ take (cond t 0 (suc (place key (key e) xs))) (f x ∷ (map f xs ++ b)) ++
-              (f e ∷ drop (cond t 0 (suc (place key (key e) xs))) (f x ∷ (map f xs ++ b)))
+          (f e ∷ drop (cond t 0 (suc (place key (key e) xs))) (f x ∷ (map f xs ++ b)))
       go true h = refl
       go false h = ap (λ (l : List R). f x ∷ l) h
 
@@ -32,11 +32,14 @@ module _ {E R : Type 0} (key : E → Key) (f : E → R) where
       (a b : List R) (e : E) (xs : List E) →
       a ++ (map f (insert key e xs) ++ b)
       ≡ take (length a + place key (key e) xs) (a ++ (map f xs ++ b)) ++
-          (f e ∷ drop (length a + place key (key e) xs) (a ++ (map f xs ++ b)))
+      (f e ∷ drop (length a + place key (key e) xs) (a ++ (map f xs ++ b)))
   rows-insert a b e xs =
       let n = place key (key e) xs in
-      rw (take-append-add a (map f xs ++ b) n, drop-append-add a (map f xs ++ b) n,
-          append-assoc a (take n (map f xs ++ b)) (f e ∷ drop n (map f xs ++ b)))
+      rw (
+        take-append-add a (map f xs ++ b) n,
+        drop-append-add a (map f xs ++ b) n,
+        append-assoc a (take n (map f xs ++ b)) (f e ∷ drop n (map f xs ++ b)),
+      )
       (ap (λ (l : List R). a ++ l) (front-insert e xs b))
 
   front-remove :
@@ -49,10 +52,10 @@ module _ {E R : Type 0} (key : E → Key) (f : E → R) where
       go :
           (t : Bool) → cond t 0 (suc (spot key k xs)) < suc (length xs) →
           (spot key k xs < length xs → map f (remove key k xs) ++ b
-              ≡ take (spot key k xs) (map f xs ++ b) ++ drop (suc (spot key k xs)) (map f xs ++ b)) →
+          ≡ take (spot key k xs) (map f xs ++ b) ++ drop (suc (spot key k xs)) (map f xs ++ b)) →
           map f (cond t xs (x ∷ remove key k xs)) ++ b
           ≡ take (cond t 0 (suc (spot key k xs))) (f x ∷ (map f xs ++ b)) ++ drop (suc (cond t 0 (suc (spot key k xs))))
-              (f x ∷ (map f xs ++ b))
+          (f x ∷ (map f xs ++ b))
       go true l h = refl
       go false l h = ap (λ (r : List R). f x ∷ r) (h (omega arith))
 
@@ -63,6 +66,10 @@ module _ {E R : Type 0} (key : E → Key) (f : E → R) where
   rows-remove a b k xs l =
       let n = spot key k xs in
       let s : length a + n + 1 ≡ length a + suc n = omega arith in
-      rw (s, take-append-add a (map f xs ++ b) n, drop-append-add a (map f xs ++ b) (suc n),
-          append-assoc a (take n (map f xs ++ b)) (drop (suc n) (map f xs ++ b)))
+      rw (
+        s,
+        take-append-add a (map f xs ++ b) n,
+        drop-append-add a (map f xs ++ b) (suc n),
+        append-assoc a (take n (map f xs ++ b)) (drop (suc n) (map f xs ++ b)),
+      )
       (ap (λ (r : List R). a ++ r) (front-remove k xs b l))

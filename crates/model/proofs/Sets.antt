@@ -23,7 +23,7 @@ module _ {E : Type 0} (key : E → Key) where
     where
       go :
           (b : Bool) → sameKey k (key x) ≡ b → held (cond b (some x) (lookup key k xs)) ≡ false →
-              (held (lookup key k xs) ≡ false → Absent k xs) →
+          (held (lookup key k xs) ≡ false → Absent k xs) →
           (sameKey k (key x) ≡ false) × Absent k xs
       go true e h k = absurd (true≢false h)
       go false e h k = (e, k h)
@@ -54,9 +54,14 @@ module _ {E : Type 0} (key : E → Key) where
   sorted-insert e (x ∷ xs) f a = go (before (key e) (key x)) refl (sorted-insert e xs (f .1) (a .1))
     where
       go : (b : Bool) → before (key e) (key x) ≡ b → Sorted key (insert key e xs) → Sorted key (cond b (e ∷ x ∷ xs) (x ∷ insert key e xs))
-      go true m h =
-          ((m, each-map (λ (y : E). before (key x) (key y) ≡ true) (λ (y : E). before (key e) (key y) ≡ true) xs
-              (λ y l. before-trans (key e) (key x) (key y) m l) (a .0)), a)
+      go true m h = (
+        (
+          m,
+          each-map (λ (y : E). before (key x) (key y) ≡ true) (λ (y : E). before (key e) (key y) ≡ true) xs
+              (λ y l. before-trans (key e) (key x) (key y) m l) (a .0),
+        ),
+        a,
+      )
       go false m h = (each-insert (λ (y : E). before (key x) (key y) ≡ true) e xs (before-turn (key e) (key x) m (f .0)) (a .0), h)
 
   pub each-remove : (P : E → Type 0) (k : Key) (xs : List E) → Each P xs → Each P (remove key k xs)

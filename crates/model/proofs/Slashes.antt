@@ -26,7 +26,7 @@ begins-between (x ∷ t) (y ∷ a) (z ∷ b) h l e =
   where
     go :
         (p : Bool) → ltb y x ≡ p → (q : Bool) → ltb x y ≡ q → (cond p Less (cond q Greater (order a t)) ≡ Less → ⊥) →
-            cond p Less (cond q Greater (order a b)) ≡ Less →
+        cond p Less (cond q Greater (order a b)) ≡ Less →
         ((order a t ≡ Less → ⊥) → order a b ≡ Less → same (take (length t) a) t ≡ true) → (eqb y x && same (take (length t) a) t) ≡ true
     go true i q j h l ih = absurd (h refl)
     go false i true j h l ih = absurd (less-greater (sym l))

@@ -44,8 +44,11 @@ module _ {E : Type 0} (key : E → Key) (t : Bytes) where
           (b : Bool) → headed y ≡ b → Each (λ (z : E). headed z ≡ false) (drop (lead headed ys) ys) →
           Each (λ (z : E). headed z ≡ false) (drop (cond (not b) 0 (suc (lead headed ys))) (y ∷ ys))
       go true e h = h
-      go false e h = (e, each-map (λ (z : E). before (key y) (key z) ≡ true) (λ (z : E). headed z ≡ false) ys
-          (λ z k. later x y z m e (s .0 .0) k) (s .1 .0))
+      go false e h = (
+        e,
+        each-map (λ (z : E). before (key y) (key z) ≡ true) (λ (z : E). headed z ≡ false) ys
+            (λ z k. later x y z m e (s .0 .0) k) (s .1 .0),
+      )
 
   -- those of the text, where the first entry is one: a run from the start
   pub span-from : (x : E) (ys : List E) → headed x ≡ true → Sorted key (x ∷ ys) → filter headed (x ∷ ys) ≡ x ∷ take (lead headed ys) ys
@@ -70,7 +73,7 @@ module _ {E : Type 0} (key : E → Key) (t : Bytes) where
         less e =
             let z-t : key z .0 ≡ t = same-eq (key z .0) t e in
             let f : order (key x .0) (key z .0) ≡ Less =
-                begins-less (key x) (key z) l (λ q. true≢false (sym (eq-same (key x .0) t (q ∙ z-t)) ∙ n)) in
+            begins-less (key x) (key z) l (λ q. true≢false (sym (eq-same (key x .0) t (q ∙ z-t)) ∙ n)) in
             ap (λ (o : Order). isLess (thenBy o (order (key x .1) u))) (ap (order (key x .0)) (sym z-t) ∙ f)
 
     pub span : (xs : List E) → Sorted key xs →
@@ -84,12 +87,12 @@ module _ {E : Type 0} (key : E → Key) (t : Bytes) where
 
         go :
             (b : Bool) → before (key x) (t, u) ≡ b → (h : Bool) → headed x ≡ h →
-                filter headed xs ≡ take (lead headed (drop n xs)) (drop n xs) →
+            filter headed xs ≡ take (lead headed (drop n xs)) (drop n xs) →
             cond h (x ∷ filter headed xs) (filter headed xs)
-                ≡ take (lead headed (drop (cond (not b) 0 (suc n)) (x ∷ xs))) (drop (cond (not b) 0 (suc n)) (x ∷ xs))
+            ≡ take (lead headed (drop (cond (not b) 0 (suc n)) (x ∷ xs))) (drop (cond (not b) 0 (suc n)) (x ∷ xs))
         go true b true h ih = absurd (true≢false (sym b ∙ least x (same-eq (key x .0) t h)))
         go true b false h ih = ih
         go false b true h ih = sym (ap (λ (c : Bool). cond c (x ∷ filter headed xs) (filter headed xs)) h) ∙ span-from x xs h s ∙ sym (rw h)
         go false b false h ih =
             filter-none headed xs (each-map (λ (z : E). before (key x) (key z) ≡ true) (λ (z : E). headed z ≡ false) xs
-                (λ z l. greater x z h b l) (s .0)) ∙ sym (rw h)
+            (λ z l. greater x z h b l) (s .0)) ∙ sym (rw h)

@@ -12,7 +12,10 @@ use Rattle.chars.specs.Folding.{equivalent}
 use Rattle.model.specs.Sets.{Key, sameKey, sumOf, insert, remove, Each, AllPairs}
 use Rattle.model.specs.Fields.{prefixOf, suffixOf}
 use Rattle.model.specs.Package.{Item, State, Kind, itemKind, defaultKind, overrideKind, relationshipKind, empty, charge, group, disagrees, grows, itemKey, nameKey, relationshipKey, keyOfItem}
-use Rattle.model.specs.Calls.{Call, Start, Looks, Changes, Prints, capacityLimit, overhead, startRefusal, step, after, Change, PutItem, DropItem, PutDefault, DropDefault, PutOverride, DropOverride, PutRelationship, DropRelationship, putRefusal, putIn, takenOut, misfits, changeRefusal, changeMade, change, putItemRefusal, putDefaultRefusal, putOverrideRefusal, putRelationshipRefusal}
+use Rattle.model.specs.Calls.{Call, Start, Looks, Changes, Prints, capacityLimit, overhead, startRefusal, step, after, Change}
+use Rattle.model.specs.Calls.{PutItem, DropItem, PutDefault, DropDefault, PutOverride, DropOverride, PutRelationship}
+use Rattle.model.specs.Calls.{DropRelationship, putRefusal, putIn, takenOut, misfits, changeRefusal, changeMade, change}
+use Rattle.model.specs.Calls.{putItemRefusal, putDefaultRefusal, putOverrideRefusal, putRelationshipRefusal}
 use Rattle.model.specs.Good.{GoodSet, Beside, Good}
 use Rattle.base.proofs.Bools.{or-false-left}
 use Rattle.model.proofs.Lists.{each-map, each-both, any-none, any-filter-none}
@@ -91,7 +94,7 @@ module _ (S : State) (new : Item) (h : putRefusal itemKind S new (misfits (new .
       (λ (i : Item). equivalent (prefixOf (i .name)) (prefixOf (new .name))) (S .items) (unmet _ 12 p₁₂ (z .0)) in
       let apart = any-none (λ (i : Item). grows (prefixOf (new .name)) (prefixOf (i .name))) (S .items) (unmet _ 11 p₁₁ (z .1 .0)) in
       each-both (λ (i : Item). Free i × Agree i) (λ (i : Item). grows (prefixOf (new .name)) (prefixOf (i .name)) ≡ false) (Beside new)
-          (S .items)
+      (S .items)
       (λ i a b. beside-new new i (a .0) (a .1) b)
       (each-both Free Agree (λ (i : Item). Free i × Agree i) (S .items) (λ i a b. (a, b)) free agree) apart
     where

@@ -46,7 +46,7 @@ internal-none false p r h = absurd (omega arith)
 pub internal-target :
     (r : Relationship) → Fielded r → eqb (r .mode) 1 ≡ false →
     (internal (r .target) ≡ true) × (partName (resolvePath (r .source) (r .target)) ≡ true) ×
-        (reserved (resolvePath (r .source) (r .target)) ≡ false)
+    (reserved (resolvePath (r .source) (r .target)) ≡ false)
 unfolding targetRefusal internalRefusal
 internal-target r f h =
     let n : r .mode ≡ 1 → ⊥ = eqb-false (r .mode) 1 h in
@@ -69,5 +69,5 @@ target-size r f = go (eqb (r .mode) 1) refl
         let m : r .mode ≡ 1 = eqb-true (r .mode) 1 e in
         let z : eqb (r .mode) 0 ≡ false = ne-eqb (r .mode) 0 (λ y. omega arith) in
         external (iri (r .target)) refl
-            (sym (ap (λ (t : Bool). cond t (internalRefusal (r .source) (r .target)) (cond (iri (r .target)) 0 9)) z) ∙ f .target)
+        (sym (ap (λ (t : Bool). cond t (internalRefusal (r .source) (r .target)) (cond (iri (r .target)) 0 9)) z) ∙ f .target)
     go false e = target-few (r .source) (r .target) (internal (r .target)) refl (ap not (internal-target r f e .0))

@@ -199,7 +199,7 @@ module _ {E : Type 0} where
             (each-both (λ (y : E). q x ≡ true → q y ≡ true) Parted (λ (y : E). r y ≡ false) xs (λ y g h. past y (g f) h) (b .0) (c .1))
         go true e false f ih =
             let z : m ≡ 0 = first-none p xs
-                (each-map (λ (y : E). p x ≡ true → p y ≡ true) (λ (y : E). p y ≡ true) xs (λ y g. g e) (a .0)) in
+            (each-map (λ (y : E). p x ≡ true → p y ≡ true) (λ (y : E). p y ≡ true) xs (λ y g. g e) (a .0)) in
             ap (λ (l : List E). x ∷ l) (ih ∙ ap (λ (k : ℕ). slice k n xs) z)
         go false e true f ih = absurd (true≢false (sym (c .0 .0 f) ∙ e))
         go false e false f ih = ih

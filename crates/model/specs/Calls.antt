@@ -13,7 +13,9 @@ use Rattle.targets.specs.Targets.{resolvePath}
 use Rattle.pack.specs.Pack.{unfragmented, packIri}
 use Rattle.model.specs.Sets.{Bytes, Key, held, any, lookup, insert, remove}
 use Rattle.model.specs.Fields.{when, first, prefixOf, suffixOf, askedField, itemField, partField, extensionField, sourceField, idField, packageField}
-use Rattle.model.specs.Package.{Item, Default, Override, Relationship, State, empty, charge, Kind, itemKind, defaultKind, overrideKind, relationshipKind, itemKey, nameKey, relationshipKey, keyOfItem, keyOfRelationship, group, isPart, content, spelling, parts, disagrees, grows, itemAt, mediaTypeOf}
+use Rattle.model.specs.Package.{Item, Default, Override, Relationship, State, empty, charge, Kind, itemKind, defaultKind}
+use Rattle.model.specs.Package.{overrideKind, relationshipKind, itemKey, nameKey, relationshipKey, keyOfItem, keyOfRelationship}
+use Rattle.model.specs.Package.{group, isPart, content, spelling, parts, disagrees, grows, itemAt, mediaTypeOf}
 use Rattle.model.specs.Texts.{typesText, relationshipsText}
 
 -- a call that only looks

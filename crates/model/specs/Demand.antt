@@ -15,7 +15,9 @@ use Rattle.output.specs.Answers.{answer, Text, filled}
 use Rattle.model.specs.Sets.{Bytes, sameKey, lookup, sumOf}
 use Rattle.model.specs.Fields.{suffixOf, itemField}
 use Rattle.model.specs.Package.{State, empty, itemKey, nameKey, keyOfOverride, itemCharge, defaultCharge, overrideCharge, relationshipCharge, group, isPart, parts, extensionOf}
-use Rattle.model.specs.Calls.{Call, Looks, Changes, Prints, Find, View, Totals, Change, PutItem, DropItem, PutDefault, DropDefault, PutOverride, DropOverride, PutRelationship, DropRelationship, ReadPart, MediaType, done, startRefusal, step, after}
+use Rattle.model.specs.Calls.{Call, Looks, Changes, Prints, Find, View, Totals, Change, PutItem, DropItem, PutDefault, DropDefault}
+use Rattle.model.specs.Calls.{PutOverride, DropOverride, PutRelationship, DropRelationship, ReadPart, MediaType, done, startRefusal}
+use Rattle.model.specs.Calls.{step, after}
 use Rattle.model.specs.Good.{Good}
 
 -- "A list of demand 3 starts from a package that an accepted start has just left": after every such list the package is good

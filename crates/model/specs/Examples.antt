@@ -10,7 +10,9 @@ use Rattle.output.specs.Answers.{Answer, answer}
 use Rattle.targets.specs.Targets.{resolvePath}
 use Rattle.model.specs.Sets.{Bytes}
 use Rattle.model.specs.Package.{empty}
-use Rattle.model.specs.Calls.{Call, Start, Looks, Changes, Prints, Find, Totals, PutItem, DropItem, PutDefault, PutOverride, PutRelationship, ReadPart, MediaType, PartAt, ResolveRelationship, WriteTypes, WriteRelationships, done, refused, overhead, answers}
+use Rattle.model.specs.Calls.{Call, Start, Looks, Changes, Prints, Find, Totals, PutItem, DropItem, PutDefault, PutOverride}
+use Rattle.model.specs.Calls.{PutRelationship, ReadPart, MediaType, PartAt, ResolveRelationship, WriteTypes, WriteRelationships, done}
+use Rattle.model.specs.Calls.{refused, overhead, answers}
 use Rattle.model.specs.Sheet.{sheet}
 use Rattle.model.specs.Opened.{everything}
 

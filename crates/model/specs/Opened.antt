@@ -21,7 +21,9 @@ use Rattle.model.specs.Places.{firstWhere}
 use Rattle.model.specs.Fields.{first, prefixOf, suffixOf, itemField, defaultFields, overrideFields, relationshipFields}
 use Rattle.model.specs.Package.{charge, group, completeFrom, isPart, content, spelling, leaders, parts, itemAt, mediaTypeOf}
 use Rattle.model.specs.Texts.{quoted, typesText, relationshipsText}
-use Rattle.model.specs.Calls.{startRefusal, clash, putItemRefusal, dropItemRefusal, putDefaultRefusal, dropDefaultRefusal, putOverrideRefusal, dropOverrideRefusal, putRelationshipRefusal, dropRelationshipRefusal, change, askedRefusal, look, resolved, printed, answers, after}
+use Rattle.model.specs.Calls.{startRefusal, clash, putItemRefusal, dropItemRefusal, putDefaultRefusal, dropDefaultRefusal}
+use Rattle.model.specs.Calls.{putOverrideRefusal, dropOverrideRefusal, putRelationshipRefusal, dropRelationshipRefusal, change}
+use Rattle.model.specs.Calls.{askedRefusal, look, resolved, printed, answers, after}
 use Rattle.output.specs.Answers.{filled}
 use Rattle.model.specs.Sheet.{withoutEmptyEnd, lineRead, listing, shown, sheet}
 

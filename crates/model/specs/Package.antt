@@ -77,7 +77,11 @@ abbrev pub itemKind : Kind Item
 itemKind = record {
   entries = λ S. S .items;
   renewed = λ S l. record {
-    capacity = S .capacity; items = l; defaults = S .defaults; overrides = S .overrides; relationships = S .relationships;
+    capacity = S .capacity;
+    items = l;
+    defaults = S .defaults;
+    overrides = S .overrides;
+    relationships = S .relationships;
   };
   key = λ i. itemKey (i .name);
   limit = 256;
@@ -89,7 +93,11 @@ abbrev pub defaultKind : Kind Default
 defaultKind = record {
   entries = λ S. S .defaults;
   renewed = λ S l. record {
-    capacity = S .capacity; items = S .items; defaults = l; overrides = S .overrides; relationships = S .relationships;
+    capacity = S .capacity;
+    items = S .items;
+    defaults = l;
+    overrides = S .overrides;
+    relationships = S .relationships;
   };
   key = λ d. nameKey (d .extension);
   limit = 64;
@@ -101,7 +109,11 @@ abbrev pub overrideKind : Kind Override
 overrideKind = record {
   entries = λ S. S .overrides;
   renewed = λ S l. record {
-    capacity = S .capacity; items = S .items; defaults = S .defaults; overrides = l; relationships = S .relationships;
+    capacity = S .capacity;
+    items = S .items;
+    defaults = S .defaults;
+    overrides = l;
+    relationships = S .relationships;
   };
   key = λ o. nameKey (o .name);
   limit = 64;
@@ -113,7 +125,11 @@ abbrev pub relationshipKind : Kind Relationship
 relationshipKind = record {
   entries = λ S. S .relationships;
   renewed = λ S l. record {
-    capacity = S .capacity; items = S .items; defaults = S .defaults; overrides = S .overrides; relationships = l;
+    capacity = S .capacity;
+    items = S .items;
+    defaults = S .defaults;
+    overrides = S .overrides;
+    relationships = l;
   };
   key = λ r. relationshipKey (r .source) (r .id);
   limit = 256;

@@ -30,7 +30,10 @@ use Rattle.chars.proofs.UnitEnds.{tiled-front}
 first-before : (s : List ℕ) → firstOf (member SchemeEnd) s ≤ indexOf numberSign s
 unfolding firstOf member
 first-before [] = omega arith
-first-before (x ∷ s) = by-value (λ (y : ℕ). firstOf (member SchemeEnd) (y ∷ s) ≤ cond (eqb y numberSign) 0 (suc (indexOf numberSign s))) x numberSign (omega arith) (λ d. rw (ne-eqb x numberSign d) (go (eqb x colon || (eqb x slash || (eqb x question || (false || false)))) (first-before s)))
+first-before (x ∷ s) =
+    by-value (λ (y : ℕ). firstOf (member SchemeEnd) (y ∷ s) ≤ cond (eqb y numberSign) 0 (suc (indexOf numberSign s))) x numberSign
+    (omega arith)
+    (λ d. rw (ne-eqb x numberSign d) (go (eqb x colon || (eqb x slash || (eqb x question || (false || false)))) (first-before s)))
   where
     go : (q : Bool) → firstOf (member SchemeEnd) s ≤ indexOf numberSign s → cond q 0 (suc (firstOf (member SchemeEnd) s)) ≤ suc (indexOf numberSign s)
     go true h = omega arith

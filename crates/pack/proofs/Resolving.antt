@@ -29,7 +29,10 @@ zero-take (x ∷ l) = refl
 module _ (s : List ℕ) (x y : ℕ) (h : Placed s x y) where
   pub pack-path-few : length (drop y s) ≤ 255
   unfolding packForm
-  pack-path-few = rw (h .path) at (go (isEmpty (pathOf s)) refl (and-right (equivalent (schemeOf s) (ascii "pack:") && defined (authorityOf s) && leb (length (drop 2 (authorityOf s))) 765 && (isEmpty (queryOf s) && isEmpty (fragmentOf s))) (isEmpty (pathOf s) || partOrRoot (pathOf s)) (h .form)))
+  pack-path-few =
+      rw (h .path) at (go (isEmpty (pathOf s)) refl
+      (and-right (equivalent (schemeOf s) (ascii "pack:") && defined (authorityOf s) && leb (length (drop 2 (authorityOf s))) 765
+      && (isEmpty (queryOf s) && isEmpty (fragmentOf s))) (isEmpty (pathOf s) || partOrRoot (pathOf s)) (h .form)))
     where
       go : (q : Bool) → isEmpty (pathOf s) ≡ q → (q || partOrRoot (pathOf s)) ≡ true → length (pathOf s) ≤ 255
       go true e f = omega (arith, eqb-true (length (pathOf s)) 0 e)

@@ -8,7 +8,9 @@ use mathlib.Core.List.{List, [], _∷_, map}
 use lib.ListN.{length, getD}
 use Rattle.output.specs.Answers.{Answer, answer}
 use Rattle.model.specs.Sets.{Key, sameKey, sumOf, AllPairs}
-use Rattle.model.specs.Package.{State, empty, itemLimit, defaultLimit, overrideLimit, relationshipLimit, keyOfItem, keyOfDefault, keyOfOverride, keyOfRelationship, itemCharge, defaultCharge, overrideCharge, relationshipCharge, charge, parts}
+use Rattle.model.specs.Package.{State, empty, itemLimit, defaultLimit, overrideLimit, relationshipLimit, keyOfItem, keyOfDefault}
+use Rattle.model.specs.Package.{keyOfOverride, keyOfRelationship, itemCharge, defaultCharge, overrideCharge, relationshipCharge, charge}
+use Rattle.model.specs.Package.{parts}
 use Rattle.model.specs.Calls.{Call, Start, Looks, Totals, step, answers, after, lent}
 use Rattle.model.specs.Good.{Alone, Distinct, Underived}
 use Rattle.store.specs.Packages.{isPackage}

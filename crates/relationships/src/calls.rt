@@ -1,7 +1,7 @@
 // The calls on relationships.
-use contract::RELATIONSHIPS;
 use contract::RELATIONSHIP_LIMIT;
 use contract::RELATIONSHIP_TAG;
+use contract::RELATIONSHIPS;
 use contract::answers::Did;
 use contract::entries::drop_row;
 use contract::entries::put_row;

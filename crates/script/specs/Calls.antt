@@ -8,7 +8,9 @@ use mathlib.Core.List.{List, [], _∷_}
 use lib.Dec.{leb}
 use lib.ListN.{length, take, drop, getD}
 use Rattle.model.specs.Sets.{Bytes}
-use Rattle.model.specs.Calls.{Find, View, Totals, PutItem, DropItem, PutDefault, DropDefault, PutOverride, DropOverride, PutRelationship, DropRelationship, ReadPart, MediaType, PartAt, ResolveRelationship, WriteTypes, WriteRelationships, Call, Start, Looks, Changes, Prints}
+use Rattle.model.specs.Calls.{Find, View, Totals, PutItem, DropItem, PutDefault, DropDefault, PutOverride, DropOverride, PutRelationship}
+use Rattle.model.specs.Calls.{DropRelationship, ReadPart, MediaType, PartAt, ResolveRelationship, WriteTypes, WriteRelationships, Call}
+use Rattle.model.specs.Calls.{Start, Looks, Changes, Prints}
 use Rattle.store.specs.Buffer.{num4}
 use Rattle.script.specs.Numbers.{num8}
 

@@ -1,10 +1,10 @@
 // The calls on Defaults and Overrides.
-use contract::DEFAULTS;
 use contract::DEFAULT_LIMIT;
 use contract::DEFAULT_TAG;
-use contract::OVERRIDES;
+use contract::DEFAULTS;
 use contract::OVERRIDE_LIMIT;
 use contract::OVERRIDE_TAG;
+use contract::OVERRIDES;
 use contract::answers::Did;
 use contract::entries::drop_row;
 use contract::entries::put_row;
@@ -75,7 +75,16 @@ pub fn put_default(pkg: &mut [u8], extension: &[u8], media: &[u8]) -> Did
     if k != 0 {
         return Did::Refused(k);
     }
-    put_row(pkg, 0, DEFAULT_LIMIT, DEFAULT_TAG, extension, media, b"", b"")
+    put_row(
+        pkg,
+        0,
+        DEFAULT_LIMIT,
+        DEFAULT_TAG,
+        extension,
+        media,
+        b"",
+        b"",
+    )
 }
 
 pub fn drop_default(pkg: &mut [u8], extension: &[u8]) -> Did

@@ -13,7 +13,9 @@ use Rattle.output.specs.declared.writing.Written.the-variants as written
 use Rattle.output.proofs.Answering.{filled-fits}
 use Rattle.model.specs.Sets.{Bytes}
 use Rattle.model.specs.Package.{empty}
-use Rattle.model.specs.Calls.{Call, Looks, Changes, Prints, View, Totals, PutItem, DropItem, PutDefault, DropDefault, PutOverride, DropOverride, PutRelationship, DropRelationship, PartAt, ReadPart, MediaType, WriteRelationships, printed, done, answers, after}
+use Rattle.model.specs.Calls.{Call, Looks, Changes, Prints, View, Totals, PutItem, DropItem, PutDefault, DropDefault, PutOverride}
+use Rattle.model.specs.Calls.{DropOverride, PutRelationship, DropRelationship, PartAt, ReadPart, MediaType, WriteRelationships, printed}
+use Rattle.model.specs.Calls.{done, answers, after}
 use Rattle.model.specs.Opened.{everything}
 use Rattle.contract.specs.Answers.{ofTotalled}
 use Rattle.contract.specs.declared.answers.Totalled.{Totalled}

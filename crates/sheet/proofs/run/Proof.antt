@@ -9,15 +9,21 @@ slice-reshare-prefix-print : tie.Need-slice-reshare-prefix-print
 slice-reshare-prefix-print c =
     let at-finish = c .before .before .before .before in
     let at-run-all = at-finish .before .before .before .before .before .before .before .before .before .before .before .before in
-    omega (arith, ready-last _ _ _ _ _ _ (at-run-all .run-all .ensures) _ _ (at-finish .finish .ensures)
-    (at-finish .finish .kept .1 .1 .1 .0) .0)
+    omega (
+      arith,
+      ready-last _ _ _ _ _ _ (at-run-all .run-all .ensures) _ _ (at-finish .finish .ensures)
+          (at-finish .finish .kept .1 .1 .1 .0) .0,
+    )
 
 slice-aggregate-print : tie.Need-slice-aggregate-print
 slice-aggregate-print c =
     let at-finish = c .before .before .before .before .before in
     let at-run-all = at-finish .before .before .before .before .before .before .before .before .before .before .before .before in
-    omega (arith, ready-last _ _ _ _ _ _ (at-run-all .run-all .ensures) _ _ (at-finish .finish .ensures)
-    (at-finish .finish .kept .1 .1 .1 .0) .1)
+    omega (
+      arith,
+      ready-last _ _ _ _ _ _ (at-run-all .run-all .ensures) _ _ (at-finish .finish .ensures)
+          (at-finish .finish .kept .1 .1 .1 .0) .1,
+    )
 
 returns : tie.Need-returns
 returns c =

@@ -20,15 +20,21 @@ slice-reshare-prefix-print : tie.Need-slice-reshare-prefix-print Inv-loop μ-loo
 slice-reshare-prefix-print c =
     let at-feed = c .before .before .before .before .before .before in
     let at-loop = at-feed .before .before .before .before .before in
-    omega (arith, ready-fits _ _ _ _ _ _ _ _ (at-loop .loop .inv .4) (at-loop .loop .inv .3) _ _ _ _ _ _ (at-feed .feed .ensures)
-    (at-feed .feed .kept .1 .1 .1 .1 .1 .0) .0)
+    omega (
+      arith,
+      ready-fits _ _ _ _ _ _ _ _ (at-loop .loop .inv .4) (at-loop .loop .inv .3) _ _ _ _ _ _ (at-feed .feed .ensures)
+          (at-feed .feed .kept .1 .1 .1 .1 .1 .0) .0,
+    )
 
 slice-aggregate-print : tie.Need-slice-aggregate-print Inv-loop μ-loop
 slice-aggregate-print c =
     let at-feed = c .before .before .before .before .before .before .before in
     let at-loop = at-feed .before .before .before .before .before in
-    omega (arith, ready-fits _ _ _ _ _ _ _ _ (at-loop .loop .inv .4) (at-loop .loop .inv .3) _ _ _ _ _ _ (at-feed .feed .ensures)
-    (at-feed .feed .kept .1 .1 .1 .1 .1 .0) .1)
+    omega (
+      arith,
+      ready-fits _ _ _ _ _ _ _ _ (at-loop .loop .inv .4) (at-loop .loop .inv .3) _ _ _ _ _ _ (at-feed .feed .ensures)
+          (at-feed .feed .kept .1 .1 .1 .1 .1 .0) .1,
+    )
 
 loop-less : tie.Need-loop-less Inv-loop μ-loop
 loop-less c =
@@ -42,9 +48,13 @@ loop-again c =
     let in-loop = at-feed .before .before .before .before in
     let inv = in-loop .before .loop .inv in
     let line = at-feed .feed .kept .1 .0 in
-    let out = at-feed .feed .kept .1 .1 .1 .1 .1 .0 in
-    ( at-feed .feed .kept .0 ∙ inv .0, line ∙ inv .1, out ∙ inv .2, at-feed .feed .ensures .onward (in-loop .loop-test .taken) .1,
-    ready-more _ _ _ _ _ _ _ _ (inv .4) (inv .3) _ _ _ _ _ _ (at-feed .feed .ensures) out line _ (c .print .ensures), )
+    let out = at-feed .feed .kept .1 .1 .1 .1 .1 .0 in (
+      at-feed .feed .kept .0 ∙ inv .0,
+      line ∙ inv .1,
+      out ∙ inv .2,
+      at-feed .feed .ensures .onward (in-loop .loop-test .taken) .1,
+      ready-more _ _ _ _ _ _ _ _ (inv .4) (inv .3) _ _ _ _ _ _ (at-feed .feed .ensures) out line _ (c .print .ensures),
+    )
 
 pub run-some-spec : {M : Type 1} → statement M
 run-some-spec =

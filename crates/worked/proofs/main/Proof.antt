@@ -17,8 +17,12 @@ expect-requires-4 c κs =
     let at-counted = at-items .before .before .before in
     let told = at-items .items .given in
     let is = at-counted .counted .ensures in
-    rw (eq-eqb (told .0 .0) 1 (cc (told .1, is)), eq-eqb (told .0 .1 .0) 1 (cc (told .1, is)), eq-eqb (told .0 .1 .1 .0) 11
-    (cc (told .1, is)))
+    rw (
+      eq-eqb (told .0 .0) 1 (cc (told .1, is)),
+      eq-eqb (told .0 .1 .0) 1 (cc (told .1, is)),
+      eq-eqb (told .0 .1 .1 .0) 11
+          (cc (told .1, is)),
+    )
 
 pub main-spec : {M : Type 1} → statement M
 main-spec =

@@ -6,8 +6,10 @@ use Rattle.abi.proofs.making.make_item_change.Statement.{statement}
 use Rattle.abi.proofs.making.make_item_change.Tie as tie
 
 returns-3 : tie.Need-returns-3
-returns-3 c = record { is = λ lent. told-coded 3 _ _ _ _ _ _ _ _ _ _ _ _ (omega arith)
-    (told-plain (λ a. refl) (λ l a. refl) (c .before .before .opc-drop-item .ensures) lent) }
+returns-3 c = record {
+  is = λ lent. told-coded 3 _ _ _ _ _ _ _ _ _ _ _ _ (omega arith)
+      (told-plain (λ a. refl) (λ l a. refl) (c .before .before .opc-drop-item .ensures) lent);
+}
 
 pub make-item-change-spec : {M : Type 1} → statement M
 make-item-change-spec =

@@ -34,8 +34,11 @@ add-read : tie.Need-add-read Inv-loop μ-loop
 add-read c =
     let at-turn = c .before .before .before .before .before .before .before .before in
     let in-loop = at-turn .before .before .before .before in
-    omega (arith, going-on (in-loop .before .loop .inv .0) (at-turn .take-turn .ensures) (c .before .if1 .left) .0,
-    in-loop .loop-test .taken)
+    omega (
+      arith,
+      going-on (in-loop .before .loop .inv .0) (at-turn .take-turn .ensures) (c .before .if1 .left) .0,
+      in-loop .loop-test .taken,
+    )
 
 add-made : tie.Need-add-made Inv-loop μ-loop
 add-made c =
@@ -45,9 +48,10 @@ add-made c =
 loop-again : tie.Need-loop-again Inv-loop μ-loop
 loop-again c =
     let at-turn = c .before .before .before .before .before .before .before .before in
-    let at-loop = at-turn .before .before .before .before .before in
-    (going-on (at-loop .loop .inv .0) (at-turn .take-turn .ensures) (c .before .if1 .left) .1,
-    at-turn .take-turn .kept .0 ∙ at-loop .loop .inv .1)
+    let at-loop = at-turn .before .before .before .before .before in (
+      going-on (at-loop .loop .inv .0) (at-turn .take-turn .ensures) (c .before .if1 .left) .1,
+      at-turn .take-turn .kept .0 ∙ at-loop .loop .inv .1,
+    )
 
 pub opc-run-spec : {M : Type 1} → statement M
 opc-run-spec =

@@ -23,9 +23,12 @@ loop-again c =
     let at-args = at-loop .before .before .before in
     let a = at-args .args in
     let i : ℕ = at-loop .loop .i in
-    let k : ℕ = at-block-size .block-size .result in
-    ( omega arith, omega arith, copy-more (a .pkg .now) _ _ (a .at) (a .src .now) i k (omega arith) (omega arith) (at-loop .loop .inv .2)
-    (at-copy-block .copy-block .ensures ∙ ap (splice _ _) (slice-part i (i + k) k (a .src .now) (omega arith))), )
+    let k : ℕ = at-block-size .block-size .result in (
+      omega arith,
+      omega arith,
+      copy-more (a .pkg .now) _ _ (a .at) (a .src .now) i k (omega arith) (omega arith) (at-loop .loop .inv .2)
+          (at-copy-block .copy-block .ensures ∙ ap (splice _ _) (slice-part i (i + k) k (a .src .now) (omega arith))),
+    )
 
 returns : tie.Need-returns Inv-loop μ-loop
 returns c =

@@ -25,9 +25,12 @@ returns c =
 loop-again : tie.Need-loop-again Inv-loop μ-loop
 loop-again c =
     let at-move-block = c .before .before in
-    let at-loop = at-move-block .before .before .before .before in
-    (omega arith, omega arith, move-more _ _ _ _ _ _ _ _ (omega arith) (omega arith) (omega arith) (at-loop .loop .inv .2)
-    (at-move-block .move-block .ensures))
+    let at-loop = at-move-block .before .before .before .before in (
+      omega arith,
+      omega arith,
+      move-more _ _ _ _ _ _ _ _ (omega arith) (omega arith) (omega arith) (at-loop .loop .inv .2)
+          (at-move-block .move-block .ensures),
+    )
 
 returns-2 : tie.Need-returns-2 Inv-loop μ-loop
 returns-2 c =

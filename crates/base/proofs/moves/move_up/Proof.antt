@@ -25,9 +25,12 @@ loop-holds c =
 loop-again : tie.Need-loop-again Inv-loop μ-loop
 loop-again c =
     let at-move-block = c .before .before in
-    let at-loop = at-move-block .before .before .before .before in
-    (omega arith, omega arith, move-more-before _ _ _ _ _ _ _ _ _ (omega arith) (omega arith) (at-loop .loop .inv .0) (omega arith)
-    (at-loop .loop .inv .2) (at-move-block .move-block .ensures))
+    let at-loop = at-move-block .before .before .before .before in (
+      omega arith,
+      omega arith,
+      move-more-before _ _ _ _ _ _ _ _ _ (omega arith) (omega arith) (at-loop .loop .inv .0) (omega arith)
+          (at-loop .loop .inv .2) (at-move-block .move-block .ensures),
+    )
 
 returns : tie.Need-returns Inv-loop μ-loop
 returns c =

@@ -56,9 +56,11 @@ loop-again c =
     let at-if1 = at-byte-order .before .before .before in
     let at-loop-test = at-if1 .before in
     let at-loop = at-loop-test .before in
-    let at-args = at-loop .before .before .before .before in
-    (omega arith, at-loop .loop .inv .1 ∙ order-next (inCase (at-args .args .folded)) (at-args .args .a .now) (at-args .args .b .now) _ _
-    (at-loop-test .loop-test .taken) (at-if1 .if1 .left) (at-byte-order .byte-order .ensures) (at-if2 .if2 .left) (c .if3 .left))
+    let at-args = at-loop .before .before .before .before in (
+      omega arith,
+      at-loop .loop .inv .1 ∙ order-next (inCase (at-args .args .folded)) (at-args .args .a .now) (at-args .args .b .now) _ _
+          (at-loop-test .loop-test .taken) (at-if1 .if1 .left) (at-byte-order .byte-order .ensures) (at-if2 .if2 .left) (c .if3 .left),
+    )
 
 returns-4 : tie.Need-returns-4 Inv-loop μ-loop
 returns-4 c =

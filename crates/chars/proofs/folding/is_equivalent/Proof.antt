@@ -23,9 +23,11 @@ loop-again : tie.Need-loop-again Inv-loop μ-loop
 loop-again c =
     let at-is-same-letter = c .before in
     let at-loop-test = at-is-same-letter .before .before .before in
-    let at-loop = at-loop-test .before in
-    ( omega arith, at-loop .loop .inv .1 ∙ equivalent-at _ _ _ _ (at-loop-test .loop-test .taken) (omega arith)
-    (at-is-same-letter .is-same-letter .ensures) ∙ rw (c .if2 .taken), )
+    let at-loop = at-loop-test .before in (
+      omega arith,
+      at-loop .loop .inv .1 ∙ equivalent-at _ _ _ _ (at-loop-test .loop-test .taken) (omega arith)
+          (at-is-same-letter .is-same-letter .ensures) ∙ rw (c .if2 .taken),
+    )
 
 returns-2 : tie.Need-returns-2 Inv-loop μ-loop
 returns-2 c =

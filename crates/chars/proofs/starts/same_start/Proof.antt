@@ -22,11 +22,15 @@ loop-again : tie.Need-loop-again Inv-loop μ-loop
 loop-again c =
     let at-agree = c .before in
     let at-loop = at-agree .before .before in
-    let at-args = at-loop .before .before .before .before in
-    (omega arith, omega arith, omega arith, take-longer (inCase (at-args .args .folded)) (at-args .args .a .now) (at-args .args .b .now)
-    (at-loop .loop .i) 8 (at-loop .loop .inv .3)
-    (same-eight-eq (at-args .args .folded) (at-args .args .a .now) (at-args .args .b .now) (at-loop .loop .i)
-    (sym (at-agree .agree .ensures) ∙ c .if1 .taken)))
+    let at-args = at-loop .before .before .before .before in (
+      omega arith,
+      omega arith,
+      omega arith,
+      take-longer (inCase (at-args .args .folded)) (at-args .args .a .now) (at-args .args .b .now)
+          (at-loop .loop .i) 8 (at-loop .loop .inv .3)
+          (same-eight-eq (at-args .args .folded) (at-args .args .a .now) (at-args .args .b .now) (at-loop .loop .i)
+          (sym (at-agree .agree .ensures) ∙ c .if1 .taken)),
+    )
 
 returns : tie.Need-returns Inv-loop μ-loop
 returns c = (omega arith, omega arith, c .before .before .before .loop .inv .3)

@@ -56,8 +56,12 @@ loop-less : tie.Need-loop-less Inv-loop μ-loop
 loop-less c =
     let at-feed-line = c .before .before .before .before .before .before .before .before in
     let at-loop-test = at-feed-line .before .before .before .before in
-    omega (arith, at-feed-line .feed-line .ensures .onward (at-loop-test .loop-test .taken) .0, at-feed-line .feed-line .ensures .onward
-    (at-loop-test .loop-test .taken) .1)
+    omega (
+      arith,
+      at-feed-line .feed-line .ensures .onward (at-loop-test .loop-test .taken) .0,
+      at-feed-line .feed-line .ensures .onward
+          (at-loop-test .loop-test .taken) .1,
+    )
 
 loop-again : tie.Need-loop-again Inv-loop μ-loop
 loop-again c =

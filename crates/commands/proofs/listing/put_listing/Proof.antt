@@ -31,9 +31,15 @@ put-group-requires c κs =
     let few = at-item-count .item-count .ensures .low in
     let inv = at-loop .loop .inv .1 in
     let l = at-loop-test .loop-test .taken in
-    let end = at-own-end .own-end .ensures in
-    (shape, (omega (arith, end .low), end .high slotCount (omega (arith, l, few, shape .few)) (omega (arith, few, shape .few)), omega
-    (arith, inv .few, inv .within, few, shape .few)))
+    let end = at-own-end .own-end .ensures in (
+      shape,
+      (
+        omega (arith, end .low),
+        end .high slotCount (omega (arith, l, few, shape .few)) (omega (arith, few, shape .few)),
+        omega
+            (arith, inv .few, inv .within, few, shape .few),
+      ),
+    )
 
 loop-less : tie.Need-loop-less Inv-loop μ-loop
 loop-less c =

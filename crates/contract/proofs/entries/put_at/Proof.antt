@@ -14,10 +14,15 @@ insert-requires : tie.Need-insert-requires
 insert-requires c κs =
     let at-if1 = c .before in
     let at-row-refusal = at-if1 .before in
-    let at-pre = at-row-refusal .before .before .before .before .before .before .before in
-    (at-pre .pre .0 .0, (entered-room _ (at-pre .args .own) (at-pre .args .limit) (at-pre .args .t) (at-pre .args .f0 .now)
-    (at-pre .args .f1 .now) (at-pre .args .f2 .now) (at-pre .args .f3 .now) _ (at-row-refusal .row-refusal .ensures) (at-if1 .if1 .left)
-    _ _ (at-pre .pre .0 .1) (at-pre .pre .1 .0), at-pre .pre .1 .1 .1))
+    let at-pre = at-row-refusal .before .before .before .before .before .before .before in (
+      at-pre .pre .0 .0,
+      (
+        entered-room _ (at-pre .args .own) (at-pre .args .limit) (at-pre .args .t) (at-pre .args .f0 .now)
+            (at-pre .args .f1 .now) (at-pre .args .f2 .now) (at-pre .args .f3 .now) _ (at-row-refusal .row-refusal .ensures) (at-if1 .if1 .left)
+            _ _ (at-pre .pre .0 .1) (at-pre .pre .1 .0),
+        at-pre .pre .1 .1 .1,
+      ),
+    )
 
 returns-2 : tie.Need-returns-2
 returns-2 c =

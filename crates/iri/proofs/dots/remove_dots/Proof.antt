@@ -46,9 +46,13 @@ loop-again c =
     let at-loop = at-loop-test .before in
     let at-args = at-loop .before .before .before in
     let f = fits-skip (at-args .args .s .now) (at-loop .loop .out) (at-loop .loop .i) (at-loop .loop .o) (at-loop-test .loop-test .taken) _
-    (at-rule .rule .ensures) _ (at-m .m .given .1) in
-    (omega arith, omega arith, at-loop .loop .inv .2, at-loop .loop .inv .3 ∙ after-skip (at-args .args .s .now) (at-loop .loop .out)
-    (at-loop .loop .i) (at-loop .loop .o) (at-loop-test .loop-test .taken) _ (at-rule .rule .ensures) _ (at-m .m .given .1))
+    (at-rule .rule .ensures) _ (at-m .m .given .1) in (
+      omega arith,
+      omega arith,
+      at-loop .loop .inv .2,
+      at-loop .loop .inv .3 ∙ after-skip (at-args .args .s .now) (at-loop .loop .out)
+          (at-loop .loop .i) (at-loop .loop .o) (at-loop-test .loop-test .taken) _ (at-rule .rule .ensures) _ (at-m .m .given .1),
+    )
 
 returns : tie.Need-returns Inv-loop μ-loop
 returns c =
@@ -90,10 +94,14 @@ loop-again-2 c =
     let at-args = at-loop .before .before .before in
     let f = fits-up (at-args .args .s .now) (at-loop .loop .out) (at-loop .loop .i) (at-loop .loop .o) (at-loop-test .loop-test .taken) _
     (at-rule .rule .ensures) _ (at-m2 .m2 .given .1) in
-    let q : c .chopped .result ≤ at-loop .loop .o = chop-le (at-loop .loop .out) _ _ (omega arith) (c .chopped .ensures) in
-    (omega arith, omega arith, at-loop .loop .inv .2, at-loop .loop .inv .3 ∙ after-up (at-args .args .s .now) (at-loop .loop .out)
-    (at-loop .loop .i) (at-loop .loop .o) (at-loop-test .loop-test .taken) _ (at-rule .rule .ensures) _ _ (at-m2 .m2 .given .1)
-    (c .chopped .ensures) q)
+    let q : c .chopped .result ≤ at-loop .loop .o = chop-le (at-loop .loop .out) _ _ (omega arith) (c .chopped .ensures) in (
+      omega arith,
+      omega arith,
+      at-loop .loop .inv .2,
+      at-loop .loop .inv .3 ∙ after-up (at-args .args .s .now) (at-loop .loop .out)
+          (at-loop .loop .i) (at-loop .loop .o) (at-loop-test .loop-test .taken) _ (at-rule .rule .ensures) _ _ (at-m2 .m2 .given .1)
+          (c .chopped .ensures) q,
+    )
 
 slice-write-out-2 : tie.Need-slice-write-out-2 Inv-loop μ-loop
 slice-write-out-2 c =
@@ -154,9 +162,11 @@ emit-requires : tie.Need-emit-requires Inv-loop μ-loop
 emit-requires c κs =
     let at-m3 = c .before .before .before in
     let at-loop = at-m3 .before .before .before .before .before in
-    let at-args = at-loop .before .before .before in
-    (omega arith, (let l = length-part-le (at-loop .loop .i + at-m3 .m3 .given .0 .0 - at-loop .loop .i) (at-loop .loop .i)
-    (at-args .args .s .now) in omega arith))
+    let at-args = at-loop .before .before .before in (
+      omega arith,
+      (let l = length-part-le (at-loop .loop .i + at-m3 .m3 .given .0 .0 - at-loop .loop .i) (at-loop .loop .i)
+          (at-args .args .s .now) in omega arith),
+    )
 
 loop-less-3 : tie.Need-loop-less-3 Inv-loop μ-loop
 loop-less-3 c =
@@ -184,10 +194,14 @@ loop-again-3 c =
     (at-rule .rule .ensures) _ (at-m3 .m3 .given .1) in
     let w = at-emit .emit in
     let k : w .result ≤ i + n = omega (arith, w .ensures .next-is, length-take-few (i + n - i) (drop i s)) in
-    let l : at-loop .loop .o + n ≤ length (at-loop .loop .out) = omega arith in
-    (omega arith, k, w .kept .0 ∙ at-loop .loop .inv .2, at-loop .loop .inv .3 ∙ after-copy (at-args .args .s .now) (at-loop .loop .out)
-    (at-loop .loop .i) (at-loop .loop .o) (at-loop-test .loop-test .taken) _ (at-rule .rule .ensures) n _ _ (at-m3 .m3 .given .1) l
-    (w .ensures))
+    let l : at-loop .loop .o + n ≤ length (at-loop .loop .out) = omega arith in (
+      omega arith,
+      k,
+      w .kept .0 ∙ at-loop .loop .inv .2,
+      at-loop .loop .inv .3 ∙ after-copy (at-args .args .s .now) (at-loop .loop .out)
+          (at-loop .loop .i) (at-loop .loop .o) (at-loop-test .loop-test .taken) _ (at-rule .rule .ensures) n _ _ (at-m3 .m3 .given .1) l
+          (w .ensures),
+    )
 
 returns-4 : tie.Need-returns-4 Inv-loop μ-loop
 returns-4 c = done _ _ _ (c .before .loop .inv .3 ∙ whole-none _ _ _ (c .loop-test .left)) (omega arith)

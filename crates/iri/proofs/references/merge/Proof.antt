@@ -36,9 +36,10 @@ emit-requires-5 : tie.Need-emit-requires-5
 emit-requires-5 c κs =
     let at-emit4 = c .before .before .before in
     let at-find-past = at-emit4 .before .before .before in
-    let at-args = at-find-past .before .before .before .before .before .before .before in
-    (omega (arith, at-emit4 .emit4 .ensures .next-is, length-take-le-length (at-find-past .find-past .result) (at-args .args .base .now)),
-    omega arith)
+    let at-args = at-find-past .before .before .before .before .before .before .before in (
+      omega (arith, at-emit4 .emit4 .ensures .next-is, length-take-le-length (at-find-past .find-past .result) (at-args .args .base .now)),
+      omega arith,
+    )
 
 returns-3 : tie.Need-returns-3
 returns-3 c =

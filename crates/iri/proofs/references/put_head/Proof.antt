@@ -47,10 +47,16 @@ slice-aggregate-emit-3 c =
 emit-requires-3 : tie.Need-emit-requires-3
 emit-requires-3 c κs =
     let at-emit2 = c .before .before .before .before in
-    let at-args = at-emit2 .before .before .before .before .before .before .before .before in
-    (omega (arith, at-emit2 .emit2 .ensures .next-is, length-take-le-length (at-args .args .b .scheme) (at-args .args .base .now),
-    at-args .pre .base-few), omega
-    (arith, length-take-le-length (at-args .args .x .authority) (at-args .args .r .now), at-args .pre .reference-few))
+    let at-args = at-emit2 .before .before .before .before .before .before .before .before in (
+      omega (
+        arith,
+        at-emit2 .emit2 .ensures .next-is,
+        length-take-le-length (at-args .args .b .scheme) (at-args .args .base .now),
+        at-args .pre .base-few,
+      ),
+      omega
+          (arith, length-take-le-length (at-args .args .x .authority) (at-args .args .r .now), at-args .pre .reference-few),
+    )
 
 returns-2 : tie.Need-returns-2
 returns-2 c =

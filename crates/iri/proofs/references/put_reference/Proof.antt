@@ -19,7 +19,16 @@ put-target-requires c κs =
     let at-split2 = at-target-path .before .before in
     let at-split = at-split2 .before in
     let at-pre = at-split .before .before .before .before in
-    (record { base-is = at-split .split .ensures; reference-is = at-split2 .split2 .ensures; base-few = at-pre .pre .0; reference-few = at-pre .pre .1 }, at-target-path .target-path .ensures .text, omega (arith, length-take-few (at-target-path .target-path .result) (at-target-path .target-path .last .1 .1 .1 .1 .0), at-target-path .target-path .ensures .few))
+    let path = at-target-path .target-path in (
+      record {
+        base-is = at-split .split .ensures;
+        reference-is = at-split2 .split2 .ensures;
+        base-few = at-pre .pre .0;
+        reference-few = at-pre .pre .1;
+      },
+      path .ensures .text,
+      omega (arith, length-take-few (path .result) (path .last .1 .1 .1 .1 .0), path .ensures .few),
+    )
 
 returns : tie.Need-returns
 returns c =
@@ -39,7 +48,16 @@ put-target-requires-2 c κs =
     let at-split2 = at-target-path .before .before in
     let at-split = at-split2 .before in
     let at-pre = at-split .before .before .before .before in
-    (record { base-is = at-split .split .ensures; reference-is = at-split2 .split2 .ensures; base-few = at-pre .pre .0; reference-few = at-pre .pre .1 }, at-target-path .target-path .ensures .text, omega (arith, length-take-few (at-target-path .target-path .result) (at-target-path .target-path .last .1 .1 .1 .1 .0), at-target-path .target-path .ensures .few))
+    let path = at-target-path .target-path in (
+      record {
+        base-is = at-split .split .ensures;
+        reference-is = at-split2 .split2 .ensures;
+        base-few = at-pre .pre .0;
+        reference-few = at-pre .pre .1;
+      },
+      path .ensures .text,
+      omega (arith, length-take-few (path .result) (path .last .1 .1 .1 .1 .0), path .ensures .few),
+    )
 
 returns-2 : tie.Need-returns-2
 returns-2 c =

@@ -9,17 +9,31 @@ use Rattle.iri.proofs.references.put_target.Tie as tie
 emit-requires : tie.Need-emit-requires
 emit-requires c κs =
     let at-put-head = c .before .before .before in
-    let at-args = at-put-head .before .before .before .before .before .before in
-    (omega (arith, at-put-head .put-head .ensures .next-is, head-few (at-args .args .base .now) (at-args .args .r .now) (at-args .args .b)
-    (at-args .args .x) (at-args .pre .0)), omega (arith, at-args .pre .2))
+    let at-args = at-put-head .before .before .before .before .before .before in (
+      omega (
+        arith,
+        at-put-head .put-head .ensures .next-is,
+        head-few (at-args .args .base .now) (at-args .args .r .now) (at-args .args .b)
+            (at-args .args .x) (at-args .pre .0),
+      ),
+      omega (arith, at-args .pre .2),
+    )
 
 put-tail-requires : tie.Need-put-tail-requires
 put-tail-requires c κs =
     let at-emit = c .before .before .before in
     let at-put-head = at-emit .before .before .before .before in
-    let at-pre = at-put-head .before .before .before .before .before .before in
-    (at-pre .pre .0, omega (arith, at-emit .emit .ensures .next-is, at-put-head .put-head .ensures .next-is, head-few
-    (at-pre .args .base .now) (at-pre .args .r .now) (at-pre .args .b) (at-pre .args .x) (at-pre .pre .0), at-pre .pre .2))
+    let at-pre = at-put-head .before .before .before .before .before .before in (
+      at-pre .pre .0,
+      omega (
+        arith,
+        at-emit .emit .ensures .next-is,
+        at-put-head .put-head .ensures .next-is,
+        head-few
+            (at-pre .args .base .now) (at-pre .args .r .now) (at-pre .args .b) (at-pre .args .x) (at-pre .pre .0),
+        at-pre .pre .2,
+      ),
+    )
 
 returns : tie.Need-returns
 returns c =

@@ -33,10 +33,17 @@ slice-aggregate-relative-path c =
 
 relative-path-requires : tie.Need-relative-path-requires
 relative-path-requires c κs =
-    let at-args = c .before .before .before .before .before .before .before .before in
-    (omega (arith, length-part-le (at-args .args .b .path - at-args .args .b .authority) (at-args .args .b .authority)
-    (at-args .args .base .now), at-args .pre .0 .base-few), omega
-    (arith, length-take-le-length (at-args .args .x .path) (at-args .args .r .now), at-args .pre .0 .reference-few), at-args .pre .1)
+    let at-args = c .before .before .before .before .before .before .before .before in (
+      omega (
+        arith,
+        length-part-le (at-args .args .b .path - at-args .args .b .authority) (at-args .args .b .authority)
+            (at-args .args .base .now),
+        at-args .pre .0 .base-few,
+      ),
+      omega
+          (arith, length-take-le-length (at-args .args .x .path) (at-args .args .r .now), at-args .pre .0 .reference-few),
+      at-args .pre .1,
+    )
 
 returns-3 : tie.Need-returns-3
 returns-3 c =

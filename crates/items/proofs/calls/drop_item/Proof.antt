@@ -24,9 +24,11 @@ remove-requires c κs =
     let at-if2 = c .before in
     let at-count = at-if2 .before in
     let at-if1 = at-count .before .before .before .before .before .before .before .before in
-    let at-opened = at-if1 .before in
-    (let-in _ _ (at-opened .opened .ensures) (at-if1 .if1 .left) .shape, omega
-    (arith, at-if2 .if2 .taken, at-count .count .ensures .0))
+    let at-opened = at-if1 .before in (
+      let-in _ _ (at-opened .opened .ensures) (at-if1 .if1 .left) .shape,
+      omega
+          (arith, at-if2 .if2 .taken, at-count .count .ensures .0),
+    )
 
 returns-2 : tie.Need-returns-2
 returns-2 c =

@@ -61,13 +61,22 @@ put-at-requires c κs =
     let at-bound = at-misfit-of .before .before .before in
     let at-n = at-bound .before .before .before .before .before in
     let at-strict = at-n .before .before in
-    let at-if1 = at-strict .before in
-    ((let-in _ _ (at-if1 .before .opened .ensures) (at-if1 .if1 .left) .shape,
-    named-set _ _ (at-strict .strict .ensures) _ _ (at-n .n .given .1)),
-    (at-bound .bound .ensures,
-    (at-misfit-of .misfit-of .ensures .numbered,
-    (named-some _ _ (at-strict .strict .ensures) _ _ (at-n .n .given .1),
-    named-tag _ _ (at-strict .strict .ensures) _ _ (at-n .n .given .1)))))
+    let at-if1 = at-strict .before in (
+      (
+        let-in _ _ (at-if1 .before .opened .ensures) (at-if1 .if1 .left) .shape,
+        named-set _ _ (at-strict .strict .ensures) _ _ (at-n .n .given .1),
+      ),
+      (
+        at-bound .bound .ensures,
+        (
+          at-misfit-of .misfit-of .ensures .numbered,
+          (
+            named-some _ _ (at-strict .strict .ensures) _ _ (at-n .n .given .1),
+            named-tag _ _ (at-strict .strict .ensures) _ _ (at-n .n .given .1),
+          ),
+        ),
+      ),
+    )
 
 returns-2 : tie.Need-returns-2
 returns-2 c =

@@ -31,18 +31,23 @@ loop-again : tie.Need-loop-again Inv-loop μ-loop
 loop-again c =
     let at-is-same-letter = c .before in
     let at-loop = at-is-same-letter .before .before .before .before in
-    let at-smaller = at-loop .before .before in
-    (omega (arith, at-smaller .smaller .ensures), omega (arith, at-smaller .smaller .ensures), at-loop .loop .inv .2 ∙ common-more _ _ _
-    (omega (arith, at-smaller .smaller .ensures)) (omega (arith, at-smaller .smaller .ensures)) _
-    (at-is-same-letter .is-same-letter .ensures) (c .if1 .taken))
+    let at-smaller = at-loop .before .before in (
+      omega (arith, at-smaller .smaller .ensures),
+      omega (arith, at-smaller .smaller .ensures),
+      at-loop .loop .inv .2 ∙ common-more _ _ _
+          (omega (arith, at-smaller .smaller .ensures)) (omega (arith, at-smaller .smaller .ensures)) _
+          (at-is-same-letter .is-same-letter .ensures) (c .if1 .taken),
+    )
 
 returns : tie.Need-returns Inv-loop μ-loop
 returns c =
     let at-is-same-letter = c .before in
     let at-loop = at-is-same-letter .before .before .before .before in
-    let at-smaller = at-loop .before .before in
-    (sym (at-loop .loop .inv .2 ∙ common-stop _ _ _ (omega (arith, at-smaller .smaller .ensures))
-    (omega (arith, at-smaller .smaller .ensures)) _ (at-is-same-letter .is-same-letter .ensures) (c .if1 .left)), at-loop .loop .inv .1)
+    let at-smaller = at-loop .before .before in (
+      sym (at-loop .loop .inv .2 ∙ common-stop _ _ _ (omega (arith, at-smaller .smaller .ensures))
+          (omega (arith, at-smaller .smaller .ensures)) _ (at-is-same-letter .is-same-letter .ensures) (c .if1 .left)),
+      at-loop .loop .inv .1,
+    )
 
 returns-2 : tie.Need-returns-2 Inv-loop μ-loop
 returns-2 c =

@@ -10,10 +10,12 @@ returns c =
     let at-put-number2 = at-emit2 .before .before .before .before .before in
     let at-emit = at-put-number2 .before .before .before .before in
     let at-put-number = at-emit .before .before .before .before .before in
-    let args = at-put-number .before .before .before .args in
-    (sent-columns (args .pieces) (args .bytes) (at-put-number .put-number .kept .0) (at-emit .emit .kept .0)
-    (at-put-number2 .put-number2 .kept .0) (at-put-number .put-number .ensures .0) (at-emit .emit .ensures)
-    (at-put-number2 .put-number2 .ensures .0) (at-emit2 .emit2 .ensures), omega arith)
+    let args = at-put-number .before .before .before .args in (
+      sent-columns (args .pieces) (args .bytes) (at-put-number .put-number .kept .0) (at-emit .emit .kept .0)
+          (at-put-number2 .put-number2 .kept .0) (at-put-number .put-number .ensures .0) (at-emit .emit .ensures)
+          (at-put-number2 .put-number2 .ensures .0) (at-emit2 .emit2 .ensures),
+      omega arith,
+    )
 
 pub put-columns-spec : {M : Type 1} → statement M
 put-columns-spec =

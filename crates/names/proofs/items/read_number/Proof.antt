@@ -48,9 +48,11 @@ add-v c = omega (arith, digit-low (b (c .before)) (is (c .before)), digit-high (
 loop-again : tie.Need-loop-again Inv-loop μ-loop
 loop-again c =
     let x = c .before in
-    let l = x .before .before .before .before .loop in
-    (omega (arith, digit-high (b x) (is x)), l .inv .1 ∙ read-more (S x) (l .v) (l .i) (b x) (x .before .before .before .loop-test .taken)
-    refl (is x))
+    let l = x .before .before .before .before .loop in (
+      omega (arith, digit-high (b x) (is x)),
+      l .inv .1 ∙ read-more (S x) (l .v) (l .i) (b x) (x .before .before .before .loop-test .taken)
+          refl (is x),
+    )
 
 returns-2 : tie.Need-returns-2 Inv-loop μ-loop
 returns-2 c =

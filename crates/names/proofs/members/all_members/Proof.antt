@@ -19,9 +19,11 @@ loop-again : tie.Need-loop-again Inv-loop μ-loop
 loop-again c =
     let at-is-member = c .before in
     let at-loop-test = at-is-member .before .before in
-    let at-loop = at-loop-test .before in
-    (omega arith, at-loop .loop .inv .1 ∙ every-at (member _) _ _ _ (at-loop-test .loop-test .taken) (at-is-member .is-member .ensures) ∙ rw
-    (c .if1 .taken))
+    let at-loop = at-loop-test .before in (
+      omega arith,
+      at-loop .loop .inv .1 ∙ every-at (member _) _ _ _ (at-loop-test .loop-test .taken) (at-is-member .is-member .ensures) ∙ rw
+          (c .if1 .taken),
+    )
 
 returns : tie.Need-returns Inv-loop μ-loop
 returns c =

@@ -49,9 +49,11 @@ loop-again : tie.Need-loop-again Inv-loop μ-loop
 loop-again c =
     let b = c .before .before in
     let a = b .before .before in
-    let l : a .find .result < length (S a) = omega (arith, ends a) in
-    ( omega arith, a .before .loop .inv .1 ∙ all-more slash (S a) (a .before .loop .i) (a .find .result) (a .find .ensures)
-    (a .before .loop .inv .0) segment l (sym (b .is-segment .ensures) ∙ c .before .if2 .taken), )
+    let l : a .find .result < length (S a) = omega (arith, ends a) in (
+      omega arith,
+      a .before .loop .inv .1 ∙ all-more slash (S a) (a .before .loop .i) (a .find .result) (a .find .ensures)
+          (a .before .loop .inv .0) segment l (sym (b .is-segment .ensures) ∙ c .before .if2 .taken),
+    )
 
 returns-3 : tie.Need-returns-3 Inv-loop μ-loop
 returns-3 c =

@@ -33,9 +33,15 @@ returns c = rw (second (c .before .before .before) _ (c .before .past-dot .ensur
 add-result : tie.Need-add-result
 add-result c =
     let a = c .before .before .before in
-    omega (arith, starts a, c .before .past-dot .ensures, last-le dot
-    (take (length (S a) - a .find-past .result) (drop (a .find-past .result) (S a))), simp (length-take, length-drop) at
-    (last-le dot (take (length (S a) - a .find-past .result) (drop (a .find-past .result) (S a)))))
+    omega (
+      arith,
+      starts a,
+      c .before .past-dot .ensures,
+      last-le dot
+          (take (length (S a) - a .find-past .result) (drop (a .find-past .result) (S a))),
+      simp (length-take, length-drop) at
+          (last-le dot (take (length (S a) - a .find-past .result) (drop (a .find-past .result) (S a)))),
+    )
 
 returns-2 : tie.Need-returns-2
 unfolding extensionAt

@@ -20,8 +20,14 @@ returns-3 c =
     let at-byte-at = at-if3 .before in
     let at-if2 = at-byte-at .before in
     let if1 = at-if2 .before .if1 in
-    rw (c .all-segments .ensures, ← at-byte-at .byte-at .ensures, at-if3 .if3 .taken, le-leb _ _ (if1 .left), le-leb _ _
-    (at-if2 .if2 .left))
+    rw (
+      c .all-segments .ensures,
+      ← at-byte-at .byte-at .ensures,
+      at-if3 .if3 .taken,
+      le-leb _ _ (if1 .left),
+      le-leb _ _
+          (at-if2 .if2 .left),
+    )
 
 returns-4 : tie.Need-returns-4
 unfolding partName

@@ -52,9 +52,11 @@ loop-less c = omega (arith, fits (c .before))
 
 loop-again : tie.Need-loop-again Inv-loop μ-loop
 loop-again c =
-    let a = c .before in
-    (fits a, a .before .before .before .loop .inv .1 ∙ tiled-step (unit (G a)) (S a) (I a) (a .unit-len .result) (here a) (c .if1 .left)
-    (fits a))
+    let a = c .before in (
+      fits a,
+      a .before .before .before .loop .inv .1 ∙ tiled-step (unit (G a)) (S a) (I a) (a .unit-len .result) (here a) (c .if1 .left)
+          (fits a),
+    )
 
 returns-2 : tie.Need-returns-2 Inv-loop μ-loop
 returns-2 c = sym (c .before .loop .inv .1 ∙ tiled-end (unit _) _ (c .before .loop .i) (c .loop-test .left))

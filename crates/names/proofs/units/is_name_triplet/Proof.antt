@@ -20,8 +20,12 @@ add-v c =
     let x = y .before .before in
     let e : hexDigit (x .before .before .args .b) ≡ true = sym (x .before .is-hex-digit .ensures) ∙ x .if1 .taken in
     let f : hexDigit (x .before .before .args .c) ≡ true = sym (y .before .is-hex-digit2 .ensures) ∙ y .if2 .taken in
-    omega (arith, hex-small (x .before .before .args .b) (x .before .before .fits .b .fits) e, hex-small (x .before .before .args .c)
-    (x .before .before .fits .c .fits) f)
+    omega (
+      arith,
+      hex-small (x .before .before .args .b) (x .before .before .fits .b .fits) e,
+      hex-small (x .before .before .args .c)
+          (x .before .before .fits .c .fits) f,
+    )
 
 returns : tie.Need-returns
 unfolding nameTriplet
@@ -31,8 +35,14 @@ returns c =
     let at-start = at-hex-value .before in
     let y = at-start in
     let x = y .before .before in
-    rw (c .is-unreserved .ensures, at-hex-value2 .hex-value2 .ensures, at-hex-value .hex-value .ensures, sym
-    (x .before .is-hex-digit .ensures) ∙ x .if1 .taken, sym (y .before .is-hex-digit2 .ensures) ∙ y .if2 .taken)
+    rw (
+      c .is-unreserved .ensures,
+      at-hex-value2 .hex-value2 .ensures,
+      at-hex-value .hex-value .ensures,
+      sym
+          (x .before .is-hex-digit .ensures) ∙ x .if1 .taken,
+      sym (y .before .is-hex-digit2 .ensures) ∙ y .if2 .taken,
+    )
 
 returns-2 : tie.Need-returns-2
 unfolding nameTriplet

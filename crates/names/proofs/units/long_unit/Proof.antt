@@ -23,8 +23,14 @@ returns-3 c =
     let at-is-char2 = at-if2 .before in
     let at-if1 = at-is-char2 .before in
     let is-triplet = at-if1 .before .is-triplet in
-    rw (← is-triplet .ensures, at-if1 .if1 .left, ← at-is-char2 .is-char2 .ensures, at-if2 .if2 .left, ← at-is-char3 .is-char3 .ensures,
-    c .if3 .taken)
+    rw (
+      ← is-triplet .ensures,
+      at-if1 .if1 .left,
+      ← at-is-char2 .is-char2 .ensures,
+      at-if2 .if2 .left,
+      ← at-is-char3 .is-char3 .ensures,
+      c .if3 .taken,
+    )
 
 returns-4 : tie.Need-returns-4
 unfolding longUnit
@@ -36,8 +42,16 @@ returns-4 c =
     let at-is-char2 = at-if2 .before in
     let at-if1 = at-is-char2 .before in
     let is-triplet = at-if1 .before .is-triplet in
-    rw (← is-triplet .ensures, at-if1 .if1 .left, ← at-is-char2 .is-char2 .ensures, at-if2 .if2 .left, ← at-is-char3 .is-char3 .ensures,
-    at-if3 .if3 .left, ← at-is-char4 .is-char4 .ensures, c .if4 .taken)
+    rw (
+      ← is-triplet .ensures,
+      at-if1 .if1 .left,
+      ← at-is-char2 .is-char2 .ensures,
+      at-if2 .if2 .left,
+      ← at-is-char3 .is-char3 .ensures,
+      at-if3 .if3 .left,
+      ← at-is-char4 .is-char4 .ensures,
+      c .if4 .taken,
+    )
 
 returns-5 : tie.Need-returns-5
 unfolding longUnit
@@ -49,8 +63,16 @@ returns-5 c =
     let at-is-char2 = at-if2 .before in
     let at-if1 = at-is-char2 .before in
     let is-triplet = at-if1 .before .is-triplet in
-    rw (← is-triplet .ensures, at-if1 .if1 .left, ← at-is-char2 .is-char2 .ensures, at-if2 .if2 .left, ← at-is-char3 .is-char3 .ensures,
-    at-if3 .if3 .left, ← at-is-char4 .is-char4 .ensures, c .if4 .left)
+    rw (
+      ← is-triplet .ensures,
+      at-if1 .if1 .left,
+      ← at-is-char2 .is-char2 .ensures,
+      at-if2 .if2 .left,
+      ← at-is-char3 .is-char3 .ensures,
+      at-if3 .if3 .left,
+      ← at-is-char4 .is-char4 .ensures,
+      c .if4 .left,
+    )
 
 pub long-unit-spec : {M : Type 1} → statement M
 long-unit-spec =

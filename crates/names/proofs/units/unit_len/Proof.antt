@@ -16,8 +16,15 @@ returns-2 c =
     let at-if1 = at-byte-at2 .before in
     let at-is-single = at-if1 .before in
     let byte-at = at-is-single .before .byte-at in
-    rw (← byte-at .ensures, ← at-is-single .is-single .ensures, at-if1 .if1 .left, ← at-byte-at2 .byte-at2 .ensures, ←
-    at-byte-at3 .byte-at3 .ensures, ← at-byte-at4 .byte-at4 .ensures) (c .long-unit .ensures)
+    rw (
+      ← byte-at .ensures,
+      ← at-is-single .is-single .ensures,
+      at-if1 .if1 .left,
+      ← at-byte-at2 .byte-at2 .ensures,
+      ←
+          at-byte-at3 .byte-at3 .ensures,
+      ← at-byte-at4 .byte-at4 .ensures,
+    ) (c .long-unit .ensures)
 
 pub unit-len-spec : {M : Type 1} → statement M
 unit-len-spec =

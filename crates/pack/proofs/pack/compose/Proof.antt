@@ -30,10 +30,12 @@ put-pack-iri-requires c κs =
     let at-is-part-or-root = at-if2 .before in
     let at-if1 = at-is-part-or-root .before in
     let at-is-package-iri = at-if1 .before in
-    let args = at-is-package-iri .before .before .before .before .args in
-    (package-short (args .p .now) (args .n .now) _ (at-is-package-iri .is-package-iri .ensures) (at-if1 .if1 .left) _
-    (at-is-part-or-root .is-part-or-root .ensures), part-few (args .p .now) (args .n .now) _ (at-is-package-iri .is-package-iri .ensures)
-    (at-if1 .if1 .left) _ (at-is-part-or-root .is-part-or-root .ensures) (at-if2 .if2 .left))
+    let args = at-is-package-iri .before .before .before .before .args in (
+      package-short (args .p .now) (args .n .now) _ (at-is-package-iri .is-package-iri .ensures) (at-if1 .if1 .left) _
+          (at-is-part-or-root .is-part-or-root .ensures),
+      part-few (args .p .now) (args .n .now) _ (at-is-package-iri .is-package-iri .ensures)
+          (at-if1 .if1 .left) _ (at-is-part-or-root .is-part-or-root .ensures) (at-if2 .if2 .left),
+    )
 
 returns-3 : tie.Need-returns-3
 returns-3 c =

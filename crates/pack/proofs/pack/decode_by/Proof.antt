@@ -28,24 +28,27 @@ loop-less c =
 
 loop-again : tie.Need-loop-again Inv-loop μ-loop
 loop-again c =
-    let t = one-or-three (ltb (c .before .before .low-triplet .result) 128) in
-    (omega (arith, c .encoded-len .ensures), omega arith, simp length-set (omega arith),
-    let at-loop = c .before .before .before .before .before .before .before .before .before .before in
-    let inside : at-loop .loop .o < length (at-loop .loop .out) = omega arith in
-    let at-decoded-byte = c .before in
-    let at-low-triplet = at-decoded-byte .before in
-    let at-slash3 = at-low-triplet .before in
-    let at-byte-at3 = at-slash3 .before in
-    let at-slash2 = at-byte-at3 .before in
-    let at-byte-at2 = at-slash2 .before in
-    let at-slash = at-byte-at2 .before in
-    let at-byte-at = at-slash .before in
-    let at-loop-test = at-byte-at .before in
-    decode-turn _ _ _ _ _ _ _ _ (at-loop-test .loop-test .taken) (at-byte-at .byte-at .ensures) (at-slash .slash .ensures)
-    (at-byte-at2 .byte-at2 .ensures) (at-slash2 .slash2 .ensures) (at-byte-at3 .byte-at3 .ensures) (at-slash3 .slash3 .ensures)
-    (at-loop .loop .out) (at-loop .loop .o) _ _ _
-    inside (at-low-triplet .low-triplet .ensures)
-    (at-decoded-byte .decoded-byte .ensures) (c .encoded-len .ensures) (at-loop .loop .inv .3))
+    let t = one-or-three (ltb (c .before .before .low-triplet .result) 128) in (
+      omega (arith, c .encoded-len .ensures),
+      omega arith,
+      simp length-set (omega arith),
+      let at-loop = c .before .before .before .before .before .before .before .before .before .before in
+          let inside : at-loop .loop .o < length (at-loop .loop .out) = omega arith in
+          let at-decoded-byte = c .before in
+          let at-low-triplet = at-decoded-byte .before in
+          let at-slash3 = at-low-triplet .before in
+          let at-byte-at3 = at-slash3 .before in
+          let at-slash2 = at-byte-at3 .before in
+          let at-byte-at2 = at-slash2 .before in
+          let at-slash = at-byte-at2 .before in
+          let at-byte-at = at-slash .before in
+          let at-loop-test = at-byte-at .before in
+          decode-turn _ _ _ _ _ _ _ _ (at-loop-test .loop-test .taken) (at-byte-at .byte-at .ensures) (at-slash .slash .ensures)
+          (at-byte-at2 .byte-at2 .ensures) (at-slash2 .slash2 .ensures) (at-byte-at3 .byte-at3 .ensures) (at-slash3 .slash3 .ensures)
+          (at-loop .loop .out) (at-loop .loop .o) _ _ _
+          inside (at-low-triplet .low-triplet .ensures)
+          (at-decoded-byte .decoded-byte .ensures) (c .encoded-len .ensures) (at-loop .loop .inv .3),
+    )
 
 returns : tie.Need-returns Inv-loop μ-loop
 returns c = decode-end _ _ _ _ (c .loop-test .left) (c .before .loop .inv .1) (c .before .loop .inv .3)

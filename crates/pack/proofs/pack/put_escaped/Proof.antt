@@ -32,9 +32,13 @@ loop-again c =
     let w = at-loop .loop in
     let h = now (at-args .args .s) in
     let s = at-put-escape .put-escape in
-    let l : w .i < length h = at-loop-test .loop-test .taken in
-    ( search needs, s .kept .0 ∙ w .inv .1, omega (arith, s .ensures .next-is, escape-few (getD h (w .i) 0)), rw (escaped-more h (w .i) l)
-    (sent-more _ (w .out) _ _ _ _ (w .at) _ (w .inv .3) (w .inv .1) (s .ensures)), )
+    let l : w .i < length h = at-loop-test .loop-test .taken in (
+      search needs,
+      s .kept .0 ∙ w .inv .1,
+      omega (arith, s .ensures .next-is, escape-few (getD h (w .i) 0)),
+      rw (escaped-more h (w .i) l)
+          (sent-more _ (w .out) _ _ _ _ (w .at) _ (w .inv .3) (w .inv .1) (s .ensures)),
+    )
 
 returns : tie.Need-returns Inv-loop μ-loop
 returns c =

@@ -65,10 +65,16 @@ slice-aggregate-emit c =
 emit-requires : tie.Need-emit-requires
 emit-requires c κs =
     let at-decode = c .before .before .before .before .before .before .before .before .before in
-    let at-args = at-decode .before .before .before .before .before in
-    (omega arith, omega (arith, package-end-few (at-args .args .s .now) _ _ (at-args .pre) _ _ (at-decode .decode .ensures)
-    (at-decode .decode .kept .1 .0), package-end-length (at-args .args .s .now) _ _ (at-args .pre) _ _ (at-decode .decode .ensures)
-    (at-decode .decode .kept .1 .0)))
+    let at-args = at-decode .before .before .before .before .before in (
+      omega arith,
+      omega (
+        arith,
+        package-end-few (at-args .args .s .now) _ _ (at-args .pre) _ _ (at-decode .decode .ensures)
+            (at-decode .decode .kept .1 .0),
+        package-end-length (at-args .args .s .now) _ _ (at-args .pre) _ _ (at-decode .decode .ensures)
+            (at-decode .decode .kept .1 .0),
+      ),
+    )
 
 part-emit-end : tie.Need-part-emit-end
 part-emit-end c =
@@ -92,11 +98,18 @@ emit-requires-2 c κs =
     let l = part-end-few (at-args .args .s .now) _ _ (at-args .pre) _ _ (at-decode .decode .ensures) (at-decode .decode .kept .1 .0) _
     (at-is-unfragmented .is-unfragmented .ensures) (at-if1 .if1 .left) _ (at-part-len .part-len .ensures) in
     let y = at-args .args .y in
-    let m = at-part-len .part-len .result in
-    (omega (arith, at-emit .emit .ensures .next-is, package-end-few (at-args .args .s .now) _ _ (at-args .pre) _ _
-    (at-decode .decode .ensures) (at-decode .decode .kept .1 .0), package-end-length (at-args .args .s .now) _ _ (at-args .pre) _ _
-    (at-decode .decode .ensures) (at-decode .decode .kept .1 .0)), omega
-    (arith, length-take-few (y + m - y) (drop y (at-args .args .s .now))))
+    let m = at-part-len .part-len .result in (
+      omega (
+        arith,
+        at-emit .emit .ensures .next-is,
+        package-end-few (at-args .args .s .now) _ _ (at-args .pre) _ _
+            (at-decode .decode .ensures) (at-decode .decode .kept .1 .0),
+        package-end-length (at-args .args .s .now) _ _ (at-args .pre) _ _
+            (at-decode .decode .ensures) (at-decode .decode .kept .1 .0),
+      ),
+      omega
+          (arith, length-take-few (y + m - y) (drop y (at-args .args .s .now))),
+    )
 
 returns-3 : tie.Need-returns-3
 returns-3 c =

@@ -25,9 +25,11 @@ loop-again c =
     let at-copy-rest = c .before .before .before in
     let at-field = at-copy-rest .before .before in
     let at-loop-test = at-field .before .before in
-    let at-loop = at-loop-test .before in
-    (omega (arith, at-loop .loop .inv .0), copying-more _ _ _ _ _ _ _ _ _ (at-loop .loop .inv .1) (at-loop .loop .inv .0)
-    (at-loop-test .loop-test .taken) _ (at-field .field .ensures .2) _ _ (at-copy-rest .copy-rest .ensures) _ (c .skip-past .ensures))
+    let at-loop = at-loop-test .before in (
+      omega (arith, at-loop .loop .inv .0),
+      copying-more _ _ _ _ _ _ _ _ _ (at-loop .loop .inv .1) (at-loop .loop .inv .0)
+          (at-loop-test .loop-test .taken) _ (at-field .field .ensures .2) _ _ (at-copy-rest .copy-rest .ensures) _ (c .skip-past .ensures),
+    )
 
 returns-2 : tie.Need-returns-2 Inv-loop μ-loop
 returns-2 c = copied-end _ _ _ _ _ _ _ _ _ (c .before .loop .inv .1) (c .before .loop .inv .0) (c .loop-test .left)

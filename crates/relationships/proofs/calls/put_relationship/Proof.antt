@@ -46,10 +46,17 @@ put-row-requires c κs =
     let at-opened = at-if1 .before in
     let at-args = at-opened .before .before .before .before .before .before .before in
     let l = mode-small (at-args .args .source .now) (at-args .args .id .now) (at-args .args .kind .now) (at-args .args .mode)
-    (at-args .args .target .now) (sym (at-fields-refusal .fields-refusal .ensures) ∙ at-if2 .if2 .left) in
-    (let-in _ _ (at-opened .opened .ensures) (at-if1 .if1 .left) .shape,
-    (zero-numbered, (source-some (at-args .args .source .now) (at-args .args .id .now) (at-args .args .kind .now) (at-args .args .mode)
-    (at-args .args .target .now) (sym (at-fields-refusal .fields-refusal .ensures) ∙ at-if2 .if2 .left), omega arith)))
+    (at-args .args .target .now) (sym (at-fields-refusal .fields-refusal .ensures) ∙ at-if2 .if2 .left) in (
+      let-in _ _ (at-opened .opened .ensures) (at-if1 .if1 .left) .shape,
+      (
+        zero-numbered,
+        (
+          source-some (at-args .args .source .now) (at-args .args .id .now) (at-args .args .kind .now) (at-args .args .mode)
+              (at-args .args .target .now) (sym (at-fields-refusal .fields-refusal .ensures) ∙ at-if2 .if2 .left),
+          omega arith,
+        ),
+      ),
+    )
 
 returns-3 : tie.Need-returns-3
 unfolding relationshipRow first

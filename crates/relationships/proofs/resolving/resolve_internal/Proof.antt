@@ -10,16 +10,21 @@ slice-aggregate-put-pack-iri : tie.Need-slice-aggregate-put-pack-iri
 slice-aggregate-put-pack-iri c =
     let at-relative-path = c .before .before in
     let at-args = at-relative-path .before .before .before .before .before .before .before in
-    sym (length-take-le _ _ (omega
-    (arith, path-end (at-args .args .source .now) (at-args .args .target .now) (at-args .pre .1) (at-args .pre .2) _ _
-    (at-relative-path .relative-path .ensures), at-relative-path .relative-path .kept .1 .1 .1 .0)))
+    sym (length-take-le _ _ (omega (
+      arith,
+      path-end (at-args .args .source .now) (at-args .args .target .now) (at-args .pre .1) (at-args .pre .2) _ _
+          (at-relative-path .relative-path .ensures),
+      at-relative-path .relative-path .kept .1 .1 .1 .0,
+    )))
 
 put-pack-iri-requires : tie.Need-put-pack-iri-requires
 put-pack-iri-requires c κs =
     let at-relative-path = c .before .before .before in
-    let at-pre = at-relative-path .before .before .before .before .before .before .before in
-    (at-pre .pre .3, path-few (at-pre .args .source .now) (at-pre .args .target .now) (at-pre .pre .1) (at-pre .pre .2) _ _
-    (at-relative-path .relative-path .ensures))
+    let at-pre = at-relative-path .before .before .before .before .before .before .before in (
+      at-pre .pre .3,
+      path-few (at-pre .args .source .now) (at-pre .args .target .now) (at-pre .pre .1) (at-pre .pre .2) _ _
+          (at-relative-path .relative-path .ensures),
+    )
 
 returns : tie.Need-returns
 returns c =
@@ -34,9 +39,12 @@ slice-aggregate-is-part : tie.Need-slice-aggregate-is-part
 slice-aggregate-is-part c =
     let at-relative-path = c .before .before .before .before .before .before .before .before in
     let at-args = at-relative-path .before .before .before .before .before .before .before in
-    sym (length-take-le _ _ (omega
-    (arith, path-end (at-args .args .source .now) (at-args .args .target .now) (at-args .pre .1) (at-args .pre .2) _ _
-    (at-relative-path .relative-path .ensures), at-relative-path .relative-path .kept .1 .1 .1 .0)))
+    sym (length-take-le _ _ (omega (
+      arith,
+      path-end (at-args .args .source .now) (at-args .args .target .now) (at-args .pre .1) (at-args .pre .2) _ _
+          (at-relative-path .relative-path .ensures),
+      at-relative-path .relative-path .kept .1 .1 .1 .0,
+    )))
 
 returns-2 : tie.Need-returns-2
 returns-2 c =

@@ -37,11 +37,14 @@ resolve-row-requires c κs =
     let at-asked-refusal = at-if2 .before in
     let at-if1 = at-asked-refusal .before in
     let at-opened = at-if1 .before in
-    let at-args = at-opened .before .before .before .before .before .before in
-    (let-in _ _ (at-opened .opened .ensures) (at-if1 .if1 .left) .shape, omega
-    (arith, at-count .count .ensures .0, at-if3 .if3 .taken), package-size _
-    (let-in _ _ (at-opened .opened .ensures) (at-if1 .if1 .left)) (at-args .args .source .now) (at-args .args .id .now)
-    (at-args .args .base .now) (at-args .args .out .now) _ (at-asked-refusal .asked-refusal .ensures) (at-if2 .if2 .left))
+    let at-args = at-opened .before .before .before .before .before .before in (
+      let-in _ _ (at-opened .opened .ensures) (at-if1 .if1 .left) .shape,
+      omega
+          (arith, at-count .count .ensures .0, at-if3 .if3 .taken),
+      package-size _
+          (let-in _ _ (at-opened .opened .ensures) (at-if1 .if1 .left)) (at-args .args .source .now) (at-args .args .id .now)
+          (at-args .args .base .now) (at-args .args .out .now) _ (at-asked-refusal .asked-refusal .ensures) (at-if2 .if2 .left),
+    )
 
 returns-3 : tie.Need-returns-3
 returns-3 c =

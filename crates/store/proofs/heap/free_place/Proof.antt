@@ -11,9 +11,11 @@ returns c =
     (get4 .ensures .1, place-here _ _ _ _ (get4 .ensures .0) (at-heap-size .heap-size .ensures) (c .if1 .taken))
 
 returns-2 : tie.Need-returns-2
-returns-2 c =
-    (c .get42 .ensures .1, place-gathered _ _ _ _ (omega arith) (c .get42 .ensures .0)
-    (c .before .before .before .before .compact .ensures))
+returns-2 c = (
+  c .get42 .ensures .1,
+  place-gathered _ _ _ _ (omega arith) (c .get42 .ensures .0)
+      (c .before .before .before .before .compact .ensures),
+)
 
 pub free-place-spec : {M : Type 1} → statement M
 free-place-spec =

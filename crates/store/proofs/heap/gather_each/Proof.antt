@@ -37,9 +37,12 @@ loop-again c =
     let at-loop = at-settle .before .before .before in
     let inv = at-loop .loop .inv in
     let pre = at-loop .before .before .before .before .pre in
-    let taken = at-settle .before .before .loop-test .taken in
-    ( omega arith, omega arith, c .lowest2 .ensures,
-    (λ so. gather-more _ _ _ _ _ _ _ _ (inv .3 so) (pre .1) (pre .2) (pre .3) (inv .1) (inv .2) taken (at-settle .settle .ensures)), )
+    let taken = at-settle .before .before .loop-test .taken in (
+      omega arith,
+      omega arith,
+      c .lowest2 .ensures,
+      (λ so. gather-more _ _ _ _ _ _ _ _ (inv .3 so) (pre .1) (pre .2) (pre .3) (inv .1) (inv .2) taken (at-settle .settle .ensures)),
+    )
 
 returns-2 : tie.Need-returns-2 Inv-loop μ-loop
 returns-2 c so =

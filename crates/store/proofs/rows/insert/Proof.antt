@@ -36,9 +36,19 @@ put-counts-requires c κs =
     let at-get42 = at-free-place .before .before in
     let at-get4 = at-get42 .before .before in
     let at-pre = at-get4 .before .before .before .before .before .before .before in
-    omega ( arith, at-pre .pre, at-get4 .get4 .ensures, at-get42 .get42 .ensures, at-if1 .if1 .left, at-if2 .if2 .left,
-    at-heap-size .heap-size .ensures, at-free-place .free-place .kept, at-put-fields .put-fields .kept, at-move-up .move-up .kept,
-    at-put-slot .put-slot .kept, )
+    omega (
+      arith,
+      at-pre .pre,
+      at-get4 .get4 .ensures,
+      at-get42 .get42 .ensures,
+      at-if1 .if1 .left,
+      at-if2 .if2 .left,
+      at-heap-size .heap-size .ensures,
+      at-free-place .free-place .kept,
+      at-put-fields .put-fields .kept,
+      at-move-up .move-up .kept,
+      at-put-slot .put-slot .kept,
+    )
 
 returns-3 : tie.Need-returns-3
 returns-3 c so =

@@ -19,9 +19,11 @@ loop-again c =
     let at-offset = c .before .before in
     let at-loop = at-offset .before .before in
     let s = at-loop .loop .inv .1 in
-    let o = at-offset .offset .ensures in
-    (omega arith, ⊎-elim (λ w. scan-take s _ o _ _ (w .0 .taken) (w .1) (w .2)) (λ w. scan-leave s _ o _ _ (w .0 .left) (w .1) (w .2))
-    (c .if2 .came))
+    let o = at-offset .offset .ensures in (
+      omega arith,
+      ⊎-elim (λ w. scan-take s _ o _ _ (w .0 .taken) (w .1) (w .2)) (λ w. scan-leave s _ o _ _ (w .0 .left) (w .1) (w .2))
+          (c .if2 .came),
+    )
 
 returns-2 : tie.Need-returns-2 Inv-loop μ-loop
 returns-2 c = scan-all _ _ _ _ _ _ (c .before .loop .inv .1) (omega arith) (omega arith)

@@ -40,9 +40,13 @@ write-stream-requires : tie.Need-write-stream-requires
 write-stream-requires c κs =
     let at-bound2 = c .before .before .before in
     let at-if1 = at-bound2 .before .before .before .before .before .before in
-    let at-opened = at-if1 .before in
-    (let-in _ _ (at-opened .opened .ensures) (at-if1 .if1 .left) .shape, at-bound2 .bound2 .ensures .within, omega arith, omega
-    arith)
+    let at-opened = at-if1 .before in (
+      let-in _ _ (at-opened .opened .ensures) (at-if1 .if1 .left) .shape,
+      at-bound2 .bound2 .ensures .within,
+      omega arith,
+      omega
+          arith,
+    )
 
 returns-3 : tie.Need-returns-3
 returns-3 c =

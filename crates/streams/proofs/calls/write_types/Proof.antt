@@ -24,9 +24,12 @@ write-stream-requires : tie.Need-write-stream-requires
 write-stream-requires c κs =
     let at-set-start2 = c .before .before .before in
     let at-if1 = at-set-start2 .before .before in
-    let at-opened = at-if1 .before in
-    (let-in _ _ (at-opened .opened .ensures) (at-if1 .if1 .left) .shape, at-set-start2 .set-start2 .ensures .within, omega arith,
-    omega arith)
+    let at-opened = at-if1 .before in (
+      let-in _ _ (at-opened .opened .ensures) (at-if1 .if1 .left) .shape,
+      at-set-start2 .set-start2 .ensures .within,
+      omega arith,
+      omega arith,
+    )
 
 returns-2 : tie.Need-returns-2
 returns-2 c =

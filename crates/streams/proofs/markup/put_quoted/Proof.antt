@@ -29,17 +29,21 @@ put-stretch-requires c κs =
     let at-loop-test = c .before .before in
     let at-loop = at-loop-test .before in
     let at-args = at-loop .before .before .before .before in
-    let w = at-loop .loop in
-    (omega (arith, taken-near _ _ (now (at-args .args .s)) (w .i) _ _ (w .inv .3), at-args .pre .0, at-args .pre .1), omega
-    (arith, stretch-length (now (at-args .args .s)) (w .i) (w .k) (w .inv .1) (w .inv .0), at-args .pre .1, at-loop-test .loop-test .taken))
+    let w = at-loop .loop in (
+      omega (arith, taken-near _ _ (now (at-args .args .s)) (w .i) _ _ (w .inv .3), at-args .pre .0, at-args .pre .1),
+      omega
+          (arith, stretch-length (now (at-args .args .s)) (w .i) (w .k) (w .inv .1) (w .inv .0), at-args .pre .1, at-loop-test .loop-test .taken),
+    )
 
 emit-requires : tie.Need-emit-requires Inv-loop μ-loop
 emit-requires c κs =
     let at-loop = c .before .before .before in
     let at-args = at-loop .before .before .before .before in
-    let w = at-loop .loop in
-    (omega (arith, taken-near _ _ (now (at-args .args .s)) (w .i) _ _ (w .inv .3), at-args .pre .0, at-args .pre .1), simp
-    (length-take, length-drop) (omega (arith, at-args .pre .1)))
+    let w = at-loop .loop in (
+      omega (arith, taken-near _ _ (now (at-args .args .s)) (w .i) _ _ (w .inv .3), at-args .pre .0, at-args .pre .1),
+      simp
+          (length-take, length-drop) (omega (arith, at-args .pre .1)),
+    )
 
 returns : tie.Need-returns Inv-loop μ-loop
 returns c =

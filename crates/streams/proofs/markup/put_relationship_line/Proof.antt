@@ -14,8 +14,19 @@ put-mode-requires c κs =
     let at-id = at-emit2 .before .before .before .before .before in
     let at-emit = at-id .before .before .before .before in
     let pre = at-emit .before .before .before .before .before .before .before .pre in
-    omega (arith, at-target .put-quoted3 .ensures .1, at-emit3 .emit3 .ensures .next-is, at-kind .put-quoted2 .ensures .1,
-    at-emit2 .emit2 .ensures .next-is, at-id .put-quoted .ensures .1, at-emit .emit .ensures .next-is, pre .0, pre .1, pre .2, pre .3)
+    omega (
+      arith,
+      at-target .put-quoted3 .ensures .1,
+      at-emit3 .emit3 .ensures .next-is,
+      at-kind .put-quoted2 .ensures .1,
+      at-emit2 .emit2 .ensures .next-is,
+      at-id .put-quoted .ensures .1,
+      at-emit .emit .ensures .next-is,
+      pre .0,
+      pre .1,
+      pre .2,
+      pre .3,
+    )
 
 returns : tie.Need-returns
 returns c =

@@ -22,9 +22,11 @@ emit-requires-2 : tie.Need-emit-requires-2
 emit-requires-2 c κs =
     let at-emit = c .before .before .before .before in
     let at-find-past = at-emit .before .before .before in
-    let at-args = at-find-past .before .before .before in
-    (omega (arith, at-emit .emit .ensures .next-is, length-take-le-length (at-find-past .find-past .result) (at-args .args .s .now)), omega
-    arith)
+    let at-args = at-find-past .before .before .before in (
+      omega (arith, at-emit .emit .ensures .next-is, length-take-le-length (at-find-past .find-past .result) (at-args .args .s .now)),
+      omega
+          arith,
+    )
 
 sub-emit : tie.Need-sub-emit
 sub-emit c =
@@ -42,11 +44,20 @@ emit-requires-3 c κs =
     let at-emit2 = c .before .before .before .before in
     let at-emit = at-emit2 .before .before .before .before .before in
     let at-find-past = at-emit .before .before .before in
-    let at-args = at-find-past .before .before .before in
-    (omega (arith, at-emit2 .emit2 .ensures .next-is, at-emit .emit .ensures .next-is, length-take-le-length
-    (at-find-past .find-past .result) (at-args .args .s .now)), omega
-    (arith, length-part-le (length (at-args .args .s .now) - at-find-past .find-past .result) (at-find-past .find-past .result)
-    (at-args .args .s .now)))
+    let at-args = at-find-past .before .before .before in (
+      omega (
+        arith,
+        at-emit2 .emit2 .ensures .next-is,
+        at-emit .emit .ensures .next-is,
+        length-take-le-length
+            (at-find-past .find-past .result) (at-args .args .s .now),
+      ),
+      omega (
+        arith,
+        length-part-le (length (at-args .args .s .now) - at-find-past .find-past .result) (at-find-past .find-past .result)
+            (at-args .args .s .now),
+      ),
+    )
 
 emit-requires-4 : tie.Need-emit-requires-4
 emit-requires-4 c κs =
@@ -54,11 +65,19 @@ emit-requires-4 c κs =
     let at-emit2 = at-emit3 .before .before .before .before .before in
     let at-emit = at-emit2 .before .before .before .before .before in
     let at-find-past = at-emit .before .before .before in
-    let at-args = at-find-past .before .before .before in
-    (omega (arith, at-emit3 .emit3 .ensures .next-is, at-emit2 .emit2 .ensures .next-is, at-emit .emit .ensures .next-is,
-    length-take-le-length (at-find-past .find-past .result) (at-args .args .s .now), length-part-le
-    (length (at-args .args .s .now) - at-find-past .find-past .result) (at-find-past .find-past .result) (at-args .args .s .now)), omega
-    arith)
+    let at-args = at-find-past .before .before .before in (
+      omega (
+        arith,
+        at-emit3 .emit3 .ensures .next-is,
+        at-emit2 .emit2 .ensures .next-is,
+        at-emit .emit .ensures .next-is,
+        length-take-le-length (at-find-past .find-past .result) (at-args .args .s .now),
+        length-part-le
+            (length (at-args .args .s .now) - at-find-past .find-past .result) (at-find-past .find-past .result) (at-args .args .s .now),
+      ),
+      omega
+          arith,
+    )
 
 returns : tie.Need-returns
 returns c =

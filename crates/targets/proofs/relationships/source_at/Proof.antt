@@ -34,9 +34,12 @@ slice-aggregate-emit-2 c =
     let at-find-past2 = c .before .before in
     let at-find-past = at-find-past2 .before .before in
     let at-args = at-find-past .before .before .before in
-    sym (length-take-le _ _ (omega
-    (arith, segment-le (at-args .args .s .now) (at-args .pre .0) _ (at-find-past .find-past .ensures) _
-    (at-find-past2 .find-past2 .ensures), last-five (at-args .args .s .now) (at-args .pre .0) _ (at-find-past .find-past .ensures))))
+    sym (length-take-le _ _ (omega (
+      arith,
+      segment-le (at-args .args .s .now) (at-args .pre .0) _ (at-find-past .find-past .ensures) _
+          (at-find-past2 .find-past2 .ensures),
+      last-five (at-args .args .s .now) (at-args .pre .0) _ (at-find-past .find-past .ensures),
+    )))
 
 emit-requires : tie.Need-emit-requires
 emit-requires c κs =
@@ -63,9 +66,11 @@ emit-requires-2 c κs =
     let at-find-past2 = at-emit .before .before .before in
     let at-find-past = at-find-past2 .before .before in
     let at-args = at-find-past .before .before .before in
-    let s = (at-args .args .s .now) in
-    (omega (arith, at-emit .emit .ensures .next-is, length-take-le-length (at-find-past2 .find-past2 .result) s, at-args .pre .1), omega
-    (arith, length-part-le (length s - 5 - at-find-past .find-past .result) (at-find-past .find-past .result) s, at-args .pre .1))
+    let s = (at-args .args .s .now) in (
+      omega (arith, at-emit .emit .ensures .next-is, length-take-le-length (at-find-past2 .find-past2 .result) s, at-args .pre .1),
+      omega
+          (arith, length-part-le (length s - 5 - at-find-past .find-past .result) (at-find-past .find-past .result) s, at-args .pre .1),
+    )
 
 array-share-prefix-source : tie.Need-array-share-prefix-source
 array-share-prefix-source c =

@@ -9,17 +9,22 @@ use Rattle.targets.proofs.targets.resolve_name.Tie as tie
 returns : tie.Need-returns
 returns c =
     let at-is-internal = c .before in
-    let at-args = at-is-internal .before .before .before .before in
-    (target-no (at-args .args .source .now) (at-args .args .target .now) _ (at-is-internal .is-internal .ensures) (c .if1 .taken), λ e.
-    absurd (omega arith))
+    let at-args = at-is-internal .before .before .before .before in (
+      target-no (at-args .args .source .now) (at-args .args .target .now) _ (at-is-internal .is-internal .ensures) (c .if1 .taken),
+      λ e.
+          absurd (omega arith),
+    )
 
 relative-path-requires : tie.Need-relative-path-requires
 relative-path-requires c κs =
     let at-if1 = c .before in
     let at-is-internal = at-if1 .before in
-    let at-pre = at-is-internal .before .before .before .before in
-    (at-pre .pre .0, target-few (at-pre .args .source .now) (at-pre .args .target .now) _ (at-is-internal .is-internal .ensures)
-    (at-if1 .if1 .left), at-pre .pre .1)
+    let at-pre = at-is-internal .before .before .before .before in (
+      at-pre .pre .0,
+      target-few (at-pre .args .source .now) (at-pre .args .target .now) _ (at-is-internal .is-internal .ensures)
+          (at-if1 .if1 .left),
+      at-pre .pre .1,
+    )
 
 slice-reshare-prefix-is-part-name : tie.Need-slice-reshare-prefix-is-part-name
 slice-reshare-prefix-is-part-name c =
@@ -27,9 +32,15 @@ slice-reshare-prefix-is-part-name c =
     let at-if1 = at-relative-path .before .before in
     let at-is-internal = at-if1 .before in
     let at-pre = at-is-internal .before .before .before .before in
-    omega (arith, at-relative-path .relative-path .ensures .few, at-pre .pre .0, target-few (at-pre .args .source .now)
-    (at-pre .args .target .now) _ (at-is-internal .is-internal .ensures) (at-if1 .if1 .left),
-    at-relative-path .relative-path .kept .1 .1 .1 .0, at-pre .pre .1)
+    omega (
+      arith,
+      at-relative-path .relative-path .ensures .few,
+      at-pre .pre .0,
+      target-few (at-pre .args .source .now)
+          (at-pre .args .target .now) _ (at-is-internal .is-internal .ensures) (at-if1 .if1 .left),
+      at-relative-path .relative-path .kept .1 .1 .1 .0,
+      at-pre .pre .1,
+    )
 
 slice-aggregate-is-part-name : tie.Need-slice-aggregate-is-part-name
 slice-aggregate-is-part-name c =
@@ -37,10 +48,15 @@ slice-aggregate-is-part-name c =
     let at-if1 = at-relative-path .before .before in
     let at-is-internal = at-if1 .before in
     let at-pre = at-is-internal .before .before .before .before in
-    sym (length-take-le _ _ (omega
-    (arith, at-relative-path .relative-path .ensures .few, at-pre .pre .0, target-few (at-pre .args .source .now)
-    (at-pre .args .target .now) _ (at-is-internal .is-internal .ensures) (at-if1 .if1 .left),
-    at-relative-path .relative-path .kept .1 .1 .1 .0, at-pre .pre .1)))
+    sym (length-take-le _ _ (omega (
+      arith,
+      at-relative-path .relative-path .ensures .few,
+      at-pre .pre .0,
+      target-few (at-pre .args .source .now)
+          (at-pre .args .target .now) _ (at-is-internal .is-internal .ensures) (at-if1 .if1 .left),
+      at-relative-path .relative-path .kept .1 .1 .1 .0,
+      at-pre .pre .1,
+    )))
 
 returns-2 : tie.Need-returns-2
 returns-2 c =
@@ -48,9 +64,11 @@ returns-2 c =
     let at-relative-path = at-is-part-name .before .before .before .before in
     let at-if1 = at-relative-path .before .before in
     let at-is-internal = at-if1 .before in
-    let at-args = at-is-internal .before .before .before .before in
-    (target-none (at-args .args .source .now) (at-args .args .target .now) _ (at-is-internal .is-internal .ensures) (at-if1 .if1 .left) _ _
-    (at-relative-path .relative-path .ensures) _ (at-is-part-name .is-part-name .ensures) (c .if2 .taken), λ e. absurd (omega arith))
+    let at-args = at-is-internal .before .before .before .before in (
+      target-none (at-args .args .source .now) (at-args .args .target .now) _ (at-is-internal .is-internal .ensures) (at-if1 .if1 .left) _ _
+          (at-relative-path .relative-path .ensures) _ (at-is-part-name .is-part-name .ensures) (c .if2 .taken),
+      λ e. absurd (omega arith),
+    )
 
 slice-reshare-prefix-is-reserved : tie.Need-slice-reshare-prefix-is-reserved
 slice-reshare-prefix-is-reserved c =
@@ -58,9 +76,15 @@ slice-reshare-prefix-is-reserved c =
     let at-if1 = at-relative-path .before .before in
     let at-is-internal = at-if1 .before in
     let at-pre = at-is-internal .before .before .before .before in
-    omega (arith, at-relative-path .relative-path .ensures .few, at-pre .pre .0, target-few (at-pre .args .source .now)
-    (at-pre .args .target .now) _ (at-is-internal .is-internal .ensures) (at-if1 .if1 .left),
-    at-relative-path .relative-path .kept .1 .1 .1 .0, at-pre .pre .1)
+    omega (
+      arith,
+      at-relative-path .relative-path .ensures .few,
+      at-pre .pre .0,
+      target-few (at-pre .args .source .now)
+          (at-pre .args .target .now) _ (at-is-internal .is-internal .ensures) (at-if1 .if1 .left),
+      at-relative-path .relative-path .kept .1 .1 .1 .0,
+      at-pre .pre .1,
+    )
 
 slice-aggregate-is-reserved : tie.Need-slice-aggregate-is-reserved
 slice-aggregate-is-reserved c =
@@ -68,10 +92,15 @@ slice-aggregate-is-reserved c =
     let at-if1 = at-relative-path .before .before in
     let at-is-internal = at-if1 .before in
     let at-pre = at-is-internal .before .before .before .before in
-    sym (length-take-le _ _ (omega
-    (arith, at-relative-path .relative-path .ensures .few, at-pre .pre .0, target-few (at-pre .args .source .now)
-    (at-pre .args .target .now) _ (at-is-internal .is-internal .ensures) (at-if1 .if1 .left),
-    at-relative-path .relative-path .kept .1 .1 .1 .0, at-pre .pre .1)))
+    sym (length-take-le _ _ (omega (
+      arith,
+      at-relative-path .relative-path .ensures .few,
+      at-pre .pre .0,
+      target-few (at-pre .args .source .now)
+          (at-pre .args .target .now) _ (at-is-internal .is-internal .ensures) (at-if1 .if1 .left),
+      at-relative-path .relative-path .kept .1 .1 .1 .0,
+      at-pre .pre .1,
+    )))
 
 returns-3 : tie.Need-returns-3
 returns-3 c =
@@ -81,10 +110,12 @@ returns-3 c =
     let at-relative-path = at-is-part-name .before .before .before .before in
     let at-if1 = at-relative-path .before .before in
     let at-is-internal = at-if1 .before in
-    let at-args = at-is-internal .before .before .before .before in
-    (target-reserved (at-args .args .source .now) (at-args .args .target .now) _ (at-is-internal .is-internal .ensures) (at-if1 .if1 .left)
-    _ _ (at-relative-path .relative-path .ensures) _ (at-is-part-name .is-part-name .ensures) (at-if2 .if2 .left) _
-    (at-is-reserved .is-reserved .ensures) (c .if3 .taken), λ e. absurd (omega arith))
+    let at-args = at-is-internal .before .before .before .before in (
+      target-reserved (at-args .args .source .now) (at-args .args .target .now) _ (at-is-internal .is-internal .ensures) (at-if1 .if1 .left)
+          _ _ (at-relative-path .relative-path .ensures) _ (at-is-part-name .is-part-name .ensures) (at-if2 .if2 .left) _
+          (at-is-reserved .is-reserved .ensures) (c .if3 .taken),
+      λ e. absurd (omega arith),
+    )
 
 returns-4 : tie.Need-returns-4
 returns-4 c =
@@ -98,9 +129,15 @@ returns-4 c =
     target-named (at-args .args .source .now) (at-args .args .target .now) _ (at-is-internal .is-internal .ensures) (at-if1 .if1 .left) _ _
     (at-relative-path .relative-path .ensures) _ (at-is-part-name .is-part-name .ensures) (at-if2 .if2 .left) _
     (at-is-reserved .is-reserved .ensures) (c .if3 .left)
-    (omega (arith, at-relative-path .relative-path .ensures .few, at-args .pre .0, target-few (at-args .args .source .now)
-    (at-args .args .target .now) _ (at-is-internal .is-internal .ensures) (at-if1 .if1 .left),
-    at-relative-path .relative-path .kept .1 .1 .1 .0, at-args .pre .1))
+    (omega (
+      arith,
+      at-relative-path .relative-path .ensures .few,
+      at-args .pre .0,
+      target-few (at-args .args .source .now)
+          (at-args .args .target .now) _ (at-is-internal .is-internal .ensures) (at-if1 .if1 .left),
+      at-relative-path .relative-path .kept .1 .1 .1 .0,
+      at-args .pre .1,
+    ))
 
 pub resolve-name-spec : {M : Type 1} → statement M
 resolve-name-spec =

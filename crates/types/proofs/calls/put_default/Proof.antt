@@ -32,9 +32,10 @@ put-row-requires c κs =
     let at-if2 = c .before .before .before in
     let at-refusal = at-if2 .before in
     let at-if1 = at-refusal .before in
-    let at-opened = at-if1 .before in
-    (let-in _ _ (at-opened .opened .ensures) (at-if1 .if1 .left) .shape,
-    (zero-numbered, (default-some _ _ (sym (at-refusal .default-refusal .ensures) ∙ at-if2 .if2 .left), omega arith)))
+    let at-opened = at-if1 .before in (
+      let-in _ _ (at-opened .opened .ensures) (at-if1 .if1 .left) .shape,
+      (zero-numbered, (default-some _ _ (sym (at-refusal .default-refusal .ensures) ∙ at-if2 .if2 .left), omega arith)),
+    )
 
 returns-3 : tie.Need-returns-3
 unfolding defaultRow first
