@@ -10,7 +10,7 @@ use lib.Dec.{leb, ltb, eqb}
 use lib.ListN.{length, getD, take, drop}
 use borrow.Author.Tests.{lt-ltb, le-ltb, le-leb, lt-leb, leb-true, leb-false, ltb-true, ltb-false}
 use Rattle.output.proofs.Answering.{refusing-is}
-use Rattle.model.specs.Sets.{Bytes, Key, sameKey, held, lookup, insert, remove}
+use Rattle.model.specs.Sets.{Bytes, Key, before, sameKey, held, lookup, insert, remove}
 use Rattle.model.specs.Places.{bound, place, spot}
 use Rattle.model.specs.Fields.{when, first}
 use Rattle.model.specs.Calls.{done, refused, Numbered}
@@ -29,7 +29,7 @@ use Rattle.contract.specs.Rows.{defaultTag, overrideTag, setOf, keyIn, r
 use Rattle.contract.specs.Searches.{Ordered, Has, Bounded}
 use Rattle.contract.specs.Answers.{ofDid}
 use Rattle.contract.specs.declared.answers.Did.the-variants.{Refused}
-use Rattle.contract.specs.Entries.{Sought, RowsCounted, keyTaken, noRowRoom, rowRefusal, Roomy, Weighed, Became, Entered, Dropped}
+use Rattle.contract.specs.Entries.{Sought, rowCount, RowsCounted, SetFull, keyTaken, noRowRoom, rowRefusal, Roomy, Weighed, Became, Entered, Dropped}
 
 -- an entry is held where its spot is one of the list
 pub held-spot : {E : Type 0} (key : E → Key) (k : Key) (xs : List E) → held (lookup key k xs) ≡ ltb (spot key k xs) (length xs)
@@ -138,26 +138,36 @@ module _ (b : List ℕ) (k : Key) (r m : ℕ) (er : Sought b k r) (em : m ≡ co
     made = λ o h. (refl, removed-is q l (rm (o .sound)) o);
   }
 
--- PUTTING IN. Whether there is room
-module _ (b : List ℕ) (set limit size n : ℕ) (en : RowsCounted b set n) where
-  room-is : Ordered b → noRowRoom b set limit size ≡ (leb limit n || leb slotCount (countOf b) || ltb (capOf b) (usedOf b + size))
-  room-is q = ap (λ (c : ℕ). leb limit c || leb slotCount (countOf b) || ltb (capOf b) (usedOf b + size)) (sym (en .is q))
+-- PUTTING IN. Whether a set is full: not where all rows together are fewer than its limit
+module _ (b : List ℕ) (set limit : ℕ) where
+  pub full-few : (m : ℕ) → m ≡ length (rowsOf b) → m < limit → SetFull b set limit false
+  full-few m e l =
+      let t = first-le (λ (x : Row). not (before (rowKey x) (keyIn (suc set) [] 0 []))) (rowsOf b) in
+      record { is = λ _. sym (lt-leb limit (rowCount set (rowsOf b)) (omega arith)) }
+
+  pub full-counted : (n : ℕ) → RowsCounted b set n → (z : Bool) → z ≡ leb limit n → SetFull b set limit z
+  full-counted n en z ez = record { is = λ q. ez ∙ ap (leb limit) (en .is q) }
+
+-- whether there is room
+module _ (b : List ℕ) (set limit size : ℕ) (w : Bool) (ew : SetFull b set limit w) where
+  room-is : Ordered b → noRowRoom b set limit size ≡ (w || leb slotCount (countOf b) || ltb (capOf b) (usedOf b + size))
+  room-is q = ap (λ (c : Bool). c || leb slotCount (countOf b) || ltb (capOf b) (usedOf b + size)) (sym (ew .is q))
 
   none-left : (Ordered b → noRowRoom b set limit size ≡ true) → Roomy b set limit size false
   none-left f = record { is = λ q. sym (f q); room = λ e. absurd (true≢false (sym e)) }
 
-  pub roomy-many : limit ≤ n → Roomy b set limit size false
-  roomy-many g = none-left (λ q. room-is q ∙ rw (le-leb limit n g))
+  pub roomy-many : w ≡ true → Roomy b set limit size false
+  roomy-many g = none-left (λ q. room-is q ∙ rw g)
 
-  module _ (g : n < limit) (m : ℕ) (em : m ≡ countOf b) where
+  module _ (g : w ≡ false) (m : ℕ) (em : m ≡ countOf b) where
     pub roomy-slots : slotCount ≤ m → Roomy b set limit size false
-    roomy-slots h = none-left (λ q. room-is q ∙ rw (lt-leb limit n g, le-leb slotCount (countOf b) (omega arith)))
+    roomy-slots h = none-left (λ q. room-is q ∙ rw (g, le-leb slotCount (countOf b) (omega arith)))
 
     pub roomy-bytes : m < slotCount → (f : ℕ) → f + usedOf b ≡ capOf b → (z : Bool) → z ≡ leb size f → Roomy b set limit size z
     roomy-bytes h f ef z ez = go z ez
       where
         slots : (y : Bool) → ltb (capOf b) (usedOf b + size) ≡ y → Ordered b → noRowRoom b set limit size ≡ y
-        slots y e q = room-is q ∙ rw (lt-leb limit n g, lt-leb slotCount (countOf b) (omega arith)) e
+        slots y e q = room-is q ∙ rw (g, lt-leb slotCount (countOf b) (omega arith)) e
 
         go : (y : Bool) → y ≡ leb size f → Roomy b set limit size y
         go true e =

@@ -28,6 +28,10 @@ rowCount n rows = bound rowKey (keyIn (suc n) [] 0 []) rows - bound rowKey (keyI
 pub record RowsCounted (b : List ℕ) (n r : ℕ) : Type 0 where
   pub is : Ordered b → r ≡ rowCount n (rowsOf b)
 
+-- z tells whether the set n has as many rows as its limit
+pub record SetFull (b : List ℕ) (n limit : ℕ) (z : Bool) : Type 0 where
+  pub is : Ordered b → z ≡ leb limit (rowCount n (rowsOf b))
+
 -- some row has the key of x
 abbrev pub keyTaken : List ℕ → Row → Bool
 keyTaken b x = held (lookup rowKey (rowKey x) (rowsOf b))

@@ -19,7 +19,7 @@ ghost use Rattle.store.specs.Packages.{Shape};
 ghost use Rattle.contract.specs.Rows.{setOf, keyIn};
 ghost use Rattle.contract.specs.Searches.{Bounded};
 ghost use Rattle.contract.specs.Answers.{ofDid};
-ghost use Rattle.contract.specs.Entries.{Sought, RowsCounted, Roomy, Weighed, Entered, Dropped};
+ghost use Rattle.contract.specs.Entries.{Sought, RowsCounted, SetFull, Roomy, Weighed, Entered, Dropped};
 
 // r, where that row has the key; the number of rows if it has not. No row before r and no row behind it has the key.
 fn hit(pkg: &[u8], r: usize, set: usize, p: &[u8], t: usize, id: &[u8]) -> usize
@@ -58,6 +58,17 @@ fn row_count(pkg: &[u8], set: usize) -> usize
     to - from
 }
 
+// Whether the set has as many rows as its limit. Mostly all sets together have fewer, and then its rows need not be counted.
+fn is_full(pkg: &[u8], set: usize, limit: usize) -> bool
+    requires { ⌜ Shape (now pkg) × (set ≤ 3) ⌝ }
+    ensures { λ r. ⌜ SetFull (now (pkg .entry)) set limit r ⌝ }
+{
+    if count(pkg) < limit {
+        return false;
+    }
+    limit <= row_count(pkg, set)
+}
+
 // Whether four fields of these lengths fit into the room.
 fn has_room(room: usize, a: usize, b: usize, c: usize, d: usize) -> bool
     ensures { λ r. ⌜ r ≡ leb (a + (b + (c + d))) room ⌝ }
@@ -89,7 +100,7 @@ fn has_row_room(
     requires { ⌜ Shape (now pkg) × (set ≤ 3) ⌝ }
     ensures { λ r. ⌜ Roomy (now (pkg .entry)) set limit (a + (b + (c + d))) r ⌝ }
 {
-    if limit <= row_count(pkg, set) {
+    if is_full(pkg, set, limit) {
         return false;
     }
     if SLOT_COUNT <= count(pkg) {
