@@ -9,6 +9,9 @@ ghost use Rattle.base.specs.Buffer.{part, splice};
 // How many bytes a block has.
 const BLOCK: usize = 4096;
 
+// Below so many bytes, they are copied one by one.
+const FEW: usize = 16;
+
 // `copy_in`, byte by byte.
 fn copy_each(pkg: &mut [u8], at: usize, src: &[u8])
     requires { ⌜ at + length (now src) ≤ length (now pkg) ⌝ }
@@ -51,8 +54,8 @@ fn block_size(n: usize) -> usize
     if n < BLOCK { n } else { BLOCK }
 }
 
-// Copies src into pkg from `at` on.
-pub fn copy_in(pkg: &mut [u8], at: usize, src: &[u8])
+// `copy_in`, block by block.
+fn copy_blocks(pkg: &mut [u8], at: usize, src: &[u8])
     requires { ⌜ at + length (now src) ≤ length (now pkg) ⌝ }
     ensures { λ _. ⌜ now (pkg .exit) ≡ splice (now (pkg .entry)) at (now (src .entry)) ⌝ }
 {
@@ -62,6 +65,18 @@ pub fn copy_in(pkg: &mut [u8], at: usize, src: &[u8])
         copy_block(pkg, at + i, &src[i..e]);
         i = e;
     }
+}
+
+// Copies src into pkg from `at` on. For few bytes the machine's move is not worth its call.
+pub fn copy_in(pkg: &mut [u8], at: usize, src: &[u8])
+    requires { ⌜ at + length (now src) ≤ length (now pkg) ⌝ }
+    ensures { λ _. ⌜ now (pkg .exit) ≡ splice (now (pkg .entry)) at (now (src .entry)) ⌝ }
+{
+    if src.len() < FEW {
+        copy_each(pkg, at, src);
+        return;
+    }
+    copy_blocks(pkg, at, src);
 }
 
 // Moves the `count` bytes from `from` on down to `to`.

@@ -6,8 +6,8 @@ use lib.Seq.{take-length}
 use Rattle.base.specs.Buffer.{splice}
 use Rattle.base.proofs.Copies.{splice-nil}
 use Rattle.base.proofs.Blocks.{slice-part, copy-more}
-use Rattle.base.proofs.moves.copy_in.Statement.{statement}
-use Rattle.base.proofs.moves.copy_in.Tie as tie
+use Rattle.base.proofs.moves.copy_blocks.Statement.{statement}
+use Rattle.base.proofs.moves.copy_blocks.Tie as tie
 
 abbrev Inv-loop : tie.InvT-loop
 Inv-loop pkg₀ at src i₀ pkg i = (i ≤ length src) × (length pkg ≡ length pkg₀) × (pkg ≡ splice pkg₀ at (take i src))
@@ -38,8 +38,8 @@ returns c =
     let e : at-loop .loop .i ≡ length s = omega arith in
     at-loop .loop .inv .2 ∙ ap (splice _ _) (ap (λ (k : ℕ). take k s) e ∙ take-length s)
 
-pub copy-in-spec : {M : Type 1} → statement M
-copy-in-spec = tie.close (tie.spec
+pub copy-blocks-spec : {M : Type 1} → statement M
+copy-blocks-spec = tie.close (tie.spec
     Inv-loop μ-loop (λ c. (omega arith, refl, splice-nil _ _)) (λ c. omega arith) (λ c κs. omega arith) (λ c. omega arith)
     (λ c. omega arith) (λ c. omega arith) (λ c. omega arith) (λ c. omega arith) (λ c κs. omega arith) (λ c. omega arith) loop-again
     (λ c. omega arith) returns)
