@@ -13,10 +13,10 @@ use Rattle.model.specs.Calls.{Start, overhead, startRefusal}
 use Rattle.model.specs.Sheet.{linesOf, shown, sheet}
 use Rattle.contract.specs.Holds.{Holds}
 use Rattle.contract.specs.Ran.{Ran}
-use Rattle.lines.specs.Gathering.{Open}
+use Rattle.lines.specs.Gathering.{Unended}
 use Rattle.commands.specs.Feeding.{Round}
 use Rattle.commands.specs.Inputs.{sheetCapacity, PrintedFor, ended, fed, EveryInput}
-use Rattle.commands.proofs.FedLines.{open-none}
+use Rattle.commands.proofs.FedLines.{unended-none}
 
 -- THE START
 start-accepted : (n : ℕ) → sheetCapacity + overhead ≤ n → startRefusal n sheetCapacity ≡ 0
@@ -27,7 +27,7 @@ pub started-holds : (o p : Bytes) (a : Answer) → sheetCapacity + overhead ≤ 
 started-holds o p a l r = r .begun .0 (start-accepted (length o) l) .1
 
 -- EVERY INPUT
-from-here : {p line input printed : Bytes} {n : ℕ} → PrintedFor p line n input printed → (S : State) → Holds p S → 1024 < length line → Open (take n line)
+from-here : {p line input printed : Bytes} {n : ℕ} → PrintedFor p line n input printed → (S : State) → Holds p S → 1024 < length line → Unended (take n line)
     → shown S (linesOf (take n line ++ input)) ≡ printed
 from-here (ended {p} {line} {out} {out'} {n} {k} m e) S h w o = ap (λ (s : Bytes). shown S (linesOf s)) (append-nil (take n line)) ∙ e .is S h o m .1
 from-here (fed {p} {line} {piece} {out} {p'} {line'} {out'} {printed} {n} {from} {n'} {from'} {k} later i m l f s) S h w o =
@@ -36,4 +36,4 @@ from-here (fed {p} {line} {piece} {out} {p'} {line'} {out'} {printed} {n} {from}
 
 pub every-input : EveryInput
 unfolding sheet
-every-input o p a line input printed l r w s = sym (from-here s (empty sheetCapacity) (started-holds o p a l r) w (open-none line))
+every-input o p a line input printed l r w s = sym (from-here s (empty sheetCapacity) (started-holds o p a l r) w (unended-none line))

@@ -14,7 +14,7 @@ use Rattle.model.specs.Package.{State}
 use Rattle.model.specs.Texts.{lineFeed}
 use Rattle.model.specs.Sheet.{lineRead, linesOf, shown, shownBy}
 use Rattle.contract.specs.Holds.{Holds}
-use Rattle.lines.specs.Gathering.{Open, together, Gathers}
+use Rattle.lines.specs.Gathering.{Unended, together, Gathers}
 use Rattle.lines.proofs.Together.{take-had}
 use Rattle.lines.proofs.Pieces.{gathered-line, gathered-part, shown-end, shown-end-none}
 use Rattle.commands.specs.Running.{LineRun}
@@ -22,9 +22,9 @@ use Rattle.commands.specs.Feeding.{mostShown, rest, FedTo, Steps, Feedin
 use Rattle.commands.proofs.ShownSizes.{shown-length}
 
 -- no byte of a line is there yet
-pub open-none : (l : Bytes) → Open (take 0 l)
+pub unended-none : (l : Bytes) → Unended (take 0 l)
 unfolding firstOf
-open-none l = refl
+unended-none l = refl
 
 -- what a line prints is short
 line-few : (p l out : Bytes) (k : ℕ) (p' out' : Bytes) → LineRun p l out k p' out' → (S : State) → Holds p S → k ≤ mostShown
@@ -53,7 +53,7 @@ module _ (p line : Bytes) (n : ℕ) (piece : Bytes) (from : ℕ) (out : Bytes) (
       after = shownBy S (lineRead (take size line')) .1;
       sent = r .shows S h;
       holds = r .holds S h;
-      begun = open-none line';
+      begun = unended-none line';
       is = λ later. gathered-line S line piece line' later n from size at g room o inside l;
     };
   }
@@ -116,7 +116,7 @@ module _ (p line : Bytes) (n : ℕ) (piece : Bytes) (from : ℕ) (out : Bytes) w
           ∙ ap (λ (x : ℕ). length (take at out₁) + x) (length-append ys (drop (length out₁ - at) (drop at out₁)))
           ∙ omega (arith, ly, lo, w .fits, length-take at out₁, length-take (length out₁ - at) (drop at out₁), length-drop at out₁, length-drop (length out₁ - at) (drop at out₁))
 
-      fed-more : (S : State) → Holds p S → 1024 < length line → Open (take n line) → from ≤ length piece → FedTo S line n piece from out m' i' (at + k) q' line₂ out₂
+      fed-more : (S : State) → Holds p S → 1024 < length line → Unended (take n line) → from ≤ length piece → FedTo S line n piece from out m' i' (at + k) q' line₂ out₂
       fed-more S h room o inside =
           let t = w .fed-to S h room o inside in
           let u = s .fed-to (t .after) (t .holds) (omega arith) (t .begun) (omega arith) in
@@ -131,7 +131,7 @@ module _ (p line : Bytes) (n : ℕ) (piece : Bytes) (from : ℕ) (out : Bytes) w
                 ∙ sym (append-assoc (t .text) (u .text) (rest (u .after) line₂ m' piece i' later));
           }
 
-      step-few : (S : State) → Holds p S → 1024 < length line → Open (take n line) → from ≤ length piece → k ≤ mostShown
+      step-few : (S : State) → Holds p S → 1024 < length line → Unended (take n line) → from ≤ length piece → k ≤ mostShown
       step-few S h room o inside = let t = w .fed-to S h room o inside in s .few (t .after) (t .holds)
 
       pub feeding-more : at + k + mostShown ≤ length out₂ → Feeding p line n piece from out m' i' (at + k) q' line₂ out₂

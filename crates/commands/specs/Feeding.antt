@@ -9,7 +9,7 @@ use Rattle.model.specs.Sets.{Bytes}
 use Rattle.model.specs.Package.{State}
 use Rattle.model.specs.Sheet.{linesOf, shown}
 use Rattle.contract.specs.Holds.{Holds}
-use Rattle.lines.specs.Gathering.{Open}
+use Rattle.lines.specs.Gathering.{Unended}
 
 -- no line prints more: a listing of 256 parts, each line with a name of 255 bytes and a type of 127
 abbrev pub mostShown : ℕ
@@ -25,7 +25,7 @@ pub record FedTo (S : State) (line : Bytes) (n : ℕ) (piece : Bytes) (from : �
   pub after : State
   pub sent : Sent out 0 text k out'
   pub holds : Holds p' after
-  pub begun : Open (take n' line')
+  pub begun : Unended (take n' line')
   pub is : (later : Bytes) → rest S line n piece from later ≡ text ++ rest after line' n' piece from' later
 
 -- the promise of an inner function: one line at most
@@ -33,7 +33,7 @@ pub record Steps (p line : Bytes) (n : ℕ) (piece : Bytes) (from : ℕ) (out : 
   pub onward : from < length piece → (from < from') × (from' ≤ length piece)
   pub small : k ≤ 254720
   pub few : (S : State) → Holds p S → k ≤ mostShown
-  pub fed-to : (S : State) → Holds p S → 1024 < length line → Open (take n line) → from ≤ length piece → FedTo S line n piece from out n' from' k p' line' out'
+  pub fed-to : (S : State) → Holds p S → 1024 < length line → Unended (take n line) → from ≤ length piece → FedTo S line n piece from out n' from' k p' line' out'
 
 -- and of its loop: some lines, with room for one more
 pub record Feeding (p line : Bytes) (n : ℕ) (piece : Bytes) (from : ℕ) (out : Bytes) (n' from' k : ℕ) (p' line' out' : Bytes) : Type 0 where
@@ -41,20 +41,20 @@ pub record Feeding (p line : Bytes) (n : ℕ) (piece : Bytes) (from : ℕ) (out 
   pub inside : from ≤ length piece → from' ≤ length piece
   pub fits : k ≤ length out
   pub room : mostShown ≤ length out → k + mostShown ≤ length out
-  pub fed-to : (S : State) → Holds p S → 1024 < length line → Open (take n line) → from ≤ length piece → FedTo S line n piece from out n' from' k p' line' out'
+  pub fed-to : (S : State) → Holds p S → 1024 < length line → Unended (take n line) → from ≤ length piece → FedTo S line n piece from out n' from' k p' line' out'
 
 -- THE PROMISE of a feed. What is printed begins with the first k bytes of the output
 pub record Round (S : State) (line : Bytes) (n : ℕ) (piece : Bytes) (from : ℕ) (out : Bytes) (n' from' k : ℕ) (p' line' out' : Bytes) : Type 0 where
   pub after : State
   pub holds : Holds p' after
-  pub begun : Open (take n' line')
+  pub begun : Unended (take n' line')
   pub fits : k ≤ length out
   pub is : (later : Bytes) → rest S line n piece from later ≡ take k out' ++ rest after line' n' piece from' later
 
 pub record Feeds (p line : Bytes) (n : ℕ) (piece : Bytes) (from : ℕ) (out : Bytes) (n' from' k : ℕ) (p' line' out' : Bytes) : Type 0 where
   pub onward : from < length piece → (from < from') × (from' ≤ length piece)
-  pub is : (S : State) → Holds p S → 1024 < length line → Open (take n line) → from ≤ length piece → mostShown ≤ length out → Round S line n piece from out n' from' k p' line' out'
+  pub is : (S : State) → Holds p S → 1024 < length line → Unended (take n line) → from ≤ length piece → mostShown ≤ length out → Round S line n piece from out n' from' k p' line' out'
 
 -- and of the end of the input: what is printed for the n bytes of a line
 pub record Ends (p line : Bytes) (n : ℕ) (out : Bytes) (k : ℕ) (out' : Bytes) : Type 0 where
-  pub is : (S : State) → Holds p S → Open (take n line) → mostShown ≤ length out → (k ≤ length out) × (shown S (linesOf (take n line)) ≡ take k out')
+  pub is : (S : State) → Holds p S → Unended (take n line) → mostShown ≤ length out → (k ≤ length out) × (shown S (linesOf (take n line)) ≡ take k out')

@@ -15,7 +15,7 @@ use Rattle.chars.proofs.Equivalence.{same-eq}
 use Rattle.chars.proofs.Searches.{index-le, last-le}
 use Rattle.base.proofs.Lists.{take-rest, length-take-le-length}
 use Rattle.iri.specs.References.{Rule, rule, rulePick, Skip, Root, Up, UpRoot, Finish, Copy, turn, firstSegment, turns, buffers, removeDotSegments}
-use Rattle.iri.specs.Scratch.{ofMove, Removed}
+use Rattle.iri.specs.Scratch.{ofMove, DotsRemoved}
 use Rattle.output.specs.Sends.{Sent}
 use Rattle.iri.specs.declared.dots.Move.{Move}
 use Rattle.output.proofs.Sending.{sent-front}
@@ -203,8 +203,8 @@ pub chop-le : (out : List ℕ) (o q : ℕ) → o ≤ length out → q ≡ afterL
 chop-le out o q h e = omega (arith, last-le slash (take o out), length-take-le o out h)
 
 -- the last byte is a slash
-pub root-done : (s out : List ℕ) (o : ℕ) → removeDotSegments s ≡ take o out ++ slash ∷ [] → o < length out → o < length s → Removed s (o + 1) (set out o slash)
+pub root-done : (s out : List ℕ) (o : ℕ) → removeDotSegments s ≡ take o out ++ slash ∷ [] → o < length out → o < length s → DotsRemoved s (o + 1) (set out o slash)
 root-done s out o e h g = record { text = ap (λ (k : ℕ). take k (set out o slash)) (add-one o) ∙ take-suc-set out o slash h ∙ sym e; few = omega arith }
 
-pub done : (s out : List ℕ) (o : ℕ) → removeDotSegments s ≡ take o out → o ≤ length s → Removed s o out
+pub done : (s out : List ℕ) (o : ℕ) → removeDotSegments s ≡ take o out → o ≤ length s → DotsRemoved s o out
 done s out o e g = record { text = sym e; few = g }

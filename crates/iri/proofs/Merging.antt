@@ -14,7 +14,7 @@ use Rattle.chars.specs.Lists.{afterLast}
 use Rattle.chars.proofs.Searches.{last-le}
 use Rattle.iri.specs.References.{merge, mergedPath, relativePath, removeDotSegments}
 use Rattle.output.specs.Sends.{Sent}
-use Rattle.iri.specs.Scratch.{Removed, Reached}
+use Rattle.iri.specs.Scratch.{DotsRemoved, Reached}
 use Rattle.base.proofs.Lists.{length-take-le-length}
 use Rattle.output.proofs.Sending.{sent-as, sent-more, sent-text}
 
@@ -51,7 +51,7 @@ module _ (a : Bool) (base r o o₁ : List ℕ) (n : ℕ) (s : Sent o 0 (mergedPa
   pub merged-end-few : n ≤ length base + length r + 1
   merged-end-few = omega (arith, s .next-is, merged-few a base r)
 
-  pub reached : (k : ℕ) (out' : List ℕ) → n ≤ length o → Removed (take n o₁) k out' → Reached a base r k out'
+  pub reached : (k : ℕ) (out' : List ℕ) → n ≤ length o → DotsRemoved (take n o₁) k out' → Reached a base r k out'
   unfolding relativePath
   reached k out' l d =
       record {

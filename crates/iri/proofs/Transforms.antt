@@ -14,7 +14,7 @@ use Rattle.names.specs.Iris.{packageIri, iri}
 use Rattle.output.specs.Answers.{Refused, Text}
 use Rattle.iri.specs.Components.{schemeOf, authorityOf, pathOf, defined, queryOf, fragmentOf, recompose}
 use Rattle.iri.specs.References.{target, transform, removeDotSegments, relativePath, resolve, resolveReference}
-use Rattle.iri.specs.Scratch.{Taken, Removed, Went, Reached}
+use Rattle.iri.specs.Scratch.{Taken, DotsRemoved, Went, Reached}
 use Rattle.output.specs.Sends.{Sent}
 use Rattle.iri.specs.declared.split.Parts.{Parts}
 use Rattle.names.proofs.Lengths.{package-few, iri-few}
@@ -164,7 +164,7 @@ module _ (base r : List ℕ) (b x : Parts) (h : Taken base r b x) where
       go true d true e = rw (head-base (eqb-true _ _ e)) (omega (arith, length-take-le-length (b .authority) base, h .base-few))
 
   -- the path in scratch
-  pub went-own : (x .authority ≡ 0 → ⊥) → (k : ℕ) (out' : List ℕ) → Removed (take (x .path - x .authority) (drop (x .authority) r)) k out' → Went base r k out'
+  pub went-own : (x .authority ≡ 0 → ⊥) → (k : ℕ) (out' : List ℕ) → DotsRemoved (take (x .path - x .authority) (drop (x .authority) r)) k out' → Went base r k out'
   went-own a k out' d =
       record { text = d .text ∙ sym (path-own a); few = omega (arith, d .few, length-part-le (x .path - x .authority) (x .authority) r, h .reference-few) }
 

@@ -42,7 +42,7 @@ ruleEnd i =
     (Copy (firstSegment i)))
 
 -- the first r bytes of the scratch are the path without dot segments
-pub record Removed (s : List ℕ) (r : ℕ) (out' : List ℕ) : Type 0 where
+pub record DotsRemoved (s : List ℕ) (r : ℕ) (out' : List ℕ) : Type 0 where
   pub text : take r out' ≡ removeDotSegments s
   pub few : r ≤ length s
 

@@ -10,7 +10,7 @@ ghost use lib.ListN.{length};
 ghost use Rattle.chars.specs.Bytes.{slash};
 ghost use Rattle.chars.specs.Lists.{afterLast};
 ghost use Rattle.iri.specs.References.{rule as ruleOf};
-ghost use Rattle.iri.specs.Scratch.{ofMove, ruleEnd, Removed};
+ghost use Rattle.iri.specs.Scratch.{ofMove, ruleEnd, DotsRemoved};
 
 // What a turn does with the input's first bytes.
 enum Move {
@@ -69,7 +69,7 @@ fn chopped(s: &[u8]) -> usize
 // Writes the path s without its dot segments to the start of out, and says how many bytes that are. What follows them in out is scratch.
 pub(crate) fn remove_dots(s: &[u8], out: &mut [u8]) -> usize
     requires { ⌜ (length (now s) ≤ length (now out)) × (length (now s) ≤ 4096) ⌝ }
-    ensures { λ r. ⌜ Removed (now (s .entry)) r (now (out .exit)) ⌝ }
+    ensures { λ r. ⌜ DotsRemoved (now (s .entry)) r (now (out .exit)) ⌝ }
 {
     let mut i = 0;
     let mut o = 0;

@@ -18,7 +18,7 @@ use Rattle.model.specs.Sets.{Bytes}
 use Rattle.model.specs.Package.{State}
 use Rattle.model.specs.Texts.{lineFeed}
 use Rattle.model.specs.Sheet.{lineRead, linesOf, withoutEmptyEnd, numberLine, shown, shownBy}
-use Rattle.lines.specs.Gathering.{Open, stretch, together, Gathers}
+use Rattle.lines.specs.Gathering.{Unended, stretch, together, Gathers}
 use Rattle.lines.proofs.Commands.{split-length, long-unreadable}
 
 -- SEARCHES over two texts
@@ -42,13 +42,13 @@ index-within b (x ∷ p) q h = go (eqb x b) (λ l. index-within b p q l) h
     go true ih h = refl
     go false ih h = ap suc (ih (omega arith))
 
-pub open-take : (n : ℕ) (c : Bytes) → Open c → Open (take n c)
+pub unended-take : (n : ℕ) (c : Bytes) → Unended c → Unended (take n c)
 unfolding firstOf
-open-take zero c e = refl
-open-take (suc n) [] e = refl
-open-take (suc n) (x ∷ c) e = go (eqb x lineFeed) (λ h. open-take n c h) e
+unended-take zero c e = refl
+unended-take (suc n) [] e = refl
+unended-take (suc n) (x ∷ c) e = go (eqb x lineFeed) (λ h. unended-take n c h) e
   where
-    go : (q : Bool) → (Open c → Open (take n c)) → cond q 0 (suc (indexOf lineFeed c)) ≡ suc (length c)
+    go : (q : Bool) → (Unended c → Unended (take n c)) → cond q 0 (suc (indexOf lineFeed c)) ≡ suc (length c)
         → cond q 0 (suc (indexOf lineFeed (take n c))) ≡ suc (length (take n c))
     go true ih e = absurd (omega arith)
     go false ih e = ap suc (ih (omega arith))
@@ -59,7 +59,7 @@ unfolding withoutEmptyEnd
 ended l [] h = absurd (omega arith)
 ended l (m ∷ r) h = refl
 
-module _ (c s : Bytes) (o : Open c) where
+module _ (c s : Bytes) (o : Unended c) where
   past : indexOf lineFeed (c ++ s) ≡ length c + indexOf lineFeed s
   past = index-past lineFeed c s o
 
@@ -94,19 +94,19 @@ module _ (S : State) where
   unfolding withoutEmptyEnd
   shown-long-end l h = rw (ne-eqb (length l) 0 (λ z. omega arith)) (shown-long l [] h)
 
-  pub shown-cut : (n : ℕ) (c s : Bytes) → 1024 < n → Open c → shown S (linesOf (take n c ++ s)) ≡ shown S (linesOf (c ++ s))
+  pub shown-cut : (n : ℕ) (c s : Bytes) → 1024 < n → Unended c → shown S (linesOf (take n c ++ s)) ≡ shown S (linesOf (c ++ s))
   shown-cut n c s h o = go (leb (length c) n) refl
     where
       go : (q : Bool) → leb (length c) n ≡ q → shown S (linesOf (take n c ++ s)) ≡ shown S (linesOf (c ++ s))
       go true e = ap (λ (x : Bytes). shown S (linesOf (x ++ s))) (take-all n c (leb-true (length c) n e))
       go false e = ⊎-elim
           (λ (g : indexOf lineFeed s ≡ length s).
-          ap (shown S) (lines-last (take n c) s (open-take n c o) g) ∙ shown-long-end (take n c ++ s) (long s .0)
+          ap (shown S) (lines-last (take n c) s (unended-take n c o) g) ∙ shown-long-end (take n c ++ s) (long s .0)
           ∙ sym (ap (shown S) (lines-last c s o g) ∙ shown-long-end (c ++ s) (long s .1)))
           (λ (g : indexOf lineFeed s < length s).
           let x = take (indexOf lineFeed s) s in
           let r = linesOf (drop (indexOf lineFeed s + 1) s) in
-          ap (shown S) (lines-more (take n c) s (open-take n c o) g) ∙ shown-long (take n c ++ x) r (long x .0)
+          ap (shown S) (lines-more (take n c) s (unended-take n c o) g) ∙ shown-long (take n c ++ x) r (long x .0)
           ∙ sym (ap (shown S) (lines-more c s o g) ∙ shown-long (c ++ x) r (long x .1)))
           (eq-or-lt-of-le (index-le lineFeed s))
         where
@@ -117,7 +117,7 @@ module _ (S : State) where
               (simp length-append (omega arith), simp length-append (omega arith))
 
   -- the input ends
-  pub shown-end : (c : Bytes) → Open c → (length c ≡ 0 → ⊥) → shown S (linesOf c) ≡ shownBy S (lineRead c) .0
+  pub shown-end : (c : Bytes) → Unended c → (length c ≡ 0 → ⊥) → shown S (linesOf c) ≡ shownBy S (lineRead c) .0
   unfolding shown withoutEmptyEnd
   shown-end c o h = ap (λ (r : List Bytes). shown S (withoutEmptyEnd r)) (split-last lineFeed c o) ∙ rw (ne-eqb (length c) 0 h) (append-nil (shownBy S (lineRead c) .0))
 
@@ -127,7 +127,7 @@ module _ (S : State) where
   shown-end-none (x ∷ c) h = absurd (omega arith)
 
 -- PIECES. What `gather` leaves of a line, and what is printed from there on; `later` is the input behind the piece
-module _ (S : State) (line piece line' later : Bytes) (n from size at : ℕ) (g : Gathers line n piece from size at line') (room : 1024 < length line) (o : Open (take n line)) (inside : from ≤ length piece) where
+module _ (S : State) (line piece line' later : Bytes) (n from size at : ℕ) (g : Gathers line n piece from size at line') (room : 1024 < length line) (o : Unended (take n line)) (inside : from ≤ length piece) where
   pub gathered-text : take size line' ≡ together line n piece from
   gathered-text = ap (λ (k : ℕ). take k line') (g .size-is) ∙ ap (take (length (together line n piece from))) (g .line-is) ∙ take-append-seam (together line n piece from) _
 
@@ -153,14 +153,14 @@ module _ (S : State) (line piece line' later : Bytes) (n from size at : ℕ) (g 
 
   -- it is not: what follows the piece goes on with the line
   pub gathered-part : length piece ≤ at
-      → (shown S (linesOf (take n line ++ (drop from piece ++ later))) ≡ shown S (linesOf (take size line' ++ later))) × Open (take size line')
+      → (shown S (linesOf (take n line ++ (drop from piece ++ later))) ≡ shown S (linesOf (take size line' ++ later))) × Unended (take size line')
   gathered-part h =
       let p = drop from piece in
       let e : indexOf lineFeed p ≡ length p = omega (arith, g .at-is, rest-length, index-le lineFeed p) in
       let t : stretch piece from ≡ p = take-all (indexOf lineFeed p) p (omega arith) in
       let w : take size line' ≡ take (length line) (take n line ++ p) = gathered-text ∙ ap (λ (x : Bytes). take (length line) (take n line ++ x)) t in
-      let c : Open (take n line ++ p) = index-past lineFeed (take n line) p o ∙ ap (λ (j : ℕ). length (take n line) + j) e ∙ sym (length-append (take n line) p) in (
+      let c : Unended (take n line ++ p) = index-past lineFeed (take n line) p o ∙ ap (λ (j : ℕ). length (take n line) + j) e ∙ sym (length-append (take n line) p) in (
         ap (λ (x : Bytes). shown S (linesOf x)) (sym (append-assoc (take n line) p later))
             ∙ sym (ap (λ (x : Bytes). shown S (linesOf (x ++ later))) w ∙ shown-cut S (length line) (take n line ++ p) later room c),
-        subst Open (sym w) (open-take (length line) (take n line ++ p) c),
+        subst Unended (sym w) (unended-take (length line) (take n line ++ p) c),
       )

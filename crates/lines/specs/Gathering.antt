@@ -9,8 +9,8 @@ use Rattle.model.specs.Sets.{Bytes}
 use Rattle.model.specs.Texts.{lineFeed}
 
 -- a line whose line feed has not come yet
-abbrev pub Open : Bytes → Type 0
-Open c = indexOf lineFeed c ≡ length c
+abbrev pub Unended : Bytes → Type 0
+Unended c = indexOf lineFeed c ≡ length c
 
 -- what a piece has of a line from a place on: up to a line feed, or to its end
 abbrev pub stretch : Bytes → ℕ → Bytes

@@ -16,7 +16,7 @@ use Rattle.base.proofs.Lists.{take-rest}
 use Rattle.names.proofs.Reserved.{drop-take}
 use Rattle.iri.specs.Components.{authorityOf, pathOf, authorityLength, afterScheme}
 use Rattle.iri.specs.Scratch.{SplitAt}
-use Rattle.pack.specs.Scratch.{Placed, PlacedAs}
+use Rattle.pack.specs.Scratch.{AuthorityAt, PlacedAs}
 use Rattle.output.specs.Answers.{answer}
 use Rattle.pack.specs.Pack.{packForm, partOrRoot, located, Not, resolvePack, Location, ofResolved, Found}
 use Rattle.pack.specs.declared.pack.Place.{Place}
@@ -87,7 +87,7 @@ module _ (s : List ℕ) (a b p q : ℕ) (h : SplitAt s a b p q) (x : Bool) (ex :
               let m : b - a ≡ n = sym (authority-length s a b p q h) ∙ k in
               omega (arith, authority-two (afterScheme s) (λ f. z (omega (arith, m, h .a-le))), m)
 
-          pub located-at : not y ≡ false → Placed s (a + 2) b
+          pub located-at : not y ≡ false → AuthorityAt s (a + 2) b
           located-at g = record {
             form = whole ∙ not-false y g;
             authority =
@@ -104,7 +104,7 @@ pub placed-none : (s : List ℕ) (p : Place) → p ≡ place.Nothing → PlacedA
 unfolding resolvePack
 placed-none s p e h = let f : packForm s ≡ false = rw e at h in rw f
 
-pub placed-at : (s : List ℕ) (p : Place) (x y : ℕ) → p ≡ place.At x y → PlacedAs s p → Placed s x y
+pub placed-at : (s : List ℕ) (p : Place) (x y : ℕ) → p ≡ place.At x y → PlacedAs s p → AuthorityAt s x y
 placed-at s p x y e h = rw e at h
 
 -- what resolving answers

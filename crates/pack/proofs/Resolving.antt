@@ -16,7 +16,7 @@ use Rattle.base.proofs.Bools.{and-right}
 use Rattle.base.proofs.Lists.{take-rest, length-take-few}
 use Rattle.iri.specs.Components.{pathOf, schemeOf, defined, authorityOf, queryOf, fragmentOf}
 use Rattle.pack.specs.Pack.{packForm, partOrRoot, packageOf, unfragmentedIri, resolvePack, Not, partOf, Found, ofResolved, located}
-use Rattle.pack.specs.Scratch.{Placed, Decoded}
+use Rattle.pack.specs.Scratch.{AuthorityAt, Decoded}
 use Rattle.output.specs.Sends.{Sent}
 use Rattle.pack.proofs.Locating.{part-or-root-few, located-short, located-found}
 use Rattle.output.proofs.Sending.{sent-more, sent-start}
@@ -26,7 +26,7 @@ zero-take : (l : List ℕ) → take 0 l ≡ []
 zero-take [] = refl
 zero-take (x ∷ l) = refl
 
-module _ (s : List ℕ) (x y : ℕ) (h : Placed s x y) where
+module _ (s : List ℕ) (x y : ℕ) (h : AuthorityAt s x y) where
   pub pack-path-few : length (drop y s) ≤ 255
   unfolding packForm
   pack-path-few =

@@ -16,7 +16,7 @@ pub record Decoded (s : List ℕ) (k : ℕ) (out' : List ℕ) : Type 0 where
   pub few : k ≤ length s
 
 -- a pack IRI has its authority, without the two slashes, from x to y, and its path from y on
-pub record Placed (s : List ℕ) (x y : ℕ) : Type 0 where
+pub record AuthorityAt (s : List ℕ) (x y : ℕ) : Type 0 where
   pub form : packForm s ≡ true
   pub authority : drop 2 (authorityOf s) ≡ take (y - x) (drop x s)
   pub path : pathOf s ≡ drop y s
@@ -25,5 +25,5 @@ pub record Placed (s : List ℕ) (x y : ℕ) : Type 0 where
   pub few : y - x ≤ 765
 
 abbrev pub PlacedAs : List ℕ → Place → Type 0
-PlacedAs s (place.At x y) = Placed s x y
+PlacedAs s (place.At x y) = AuthorityAt s x y
 PlacedAs s place.Nothing = packForm s ≡ false

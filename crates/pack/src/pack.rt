@@ -26,7 +26,7 @@ ghost use Rattle.chars.specs.Folding.{equivalent};
 ghost use Rattle.pack.specs.Pack.{escape, escaped, packIri, partOrRoot, compose as composed, slashed, lowTriplet, unfragmentedIri, partOf, resolvePack, ofResolved, located};
 ghost use Rattle.output.specs.Answers.{ofWritten, written};
 ghost use Rattle.output.specs.Sends.{Sent, Fitted};
-ghost use Rattle.pack.specs.Scratch.{Placed, PlacedAs, Decoded};
+ghost use Rattle.pack.specs.Scratch.{AuthorityAt, PlacedAs, Decoded};
 
 fn is_part_or_root(n: &[u8]) -> bool
     ensures { λ r. ⌜ r ≡ partOrRoot (now (n .entry)) ⌝ }
@@ -223,7 +223,7 @@ fn is_unfragmented(p: &[u8]) -> bool
     is_package_iri(p) & has_no(p, b'#')
 }
 
-fn locate(s: &[u8]) -> Place
+fn place_of(s: &[u8]) -> Place
     ensures { λ r. ⌜ PlacedAs (now (s .entry)) r ⌝ }
 {
     let x = split(s);
@@ -260,7 +260,7 @@ fn part_len(p: &[u8]) -> usize
 
 // The authority stands from x to y, the path from y on.
 fn resolve_at(s: &[u8], x: usize, y: usize, out: &mut [u8]) -> Resolved
-    requires { ⌜ Placed (now s) x y ⌝ }
+    requires { ⌜ AuthorityAt (now s) x y ⌝ }
     ensures { λ r. ⌜ ofResolved r (now (out .exit)) ≡ located (resolvePack (now (s .entry))) (now (out .entry)) ⌝ }
 {
     let mut package = [0; 765];
@@ -283,7 +283,7 @@ fn resolve_at(s: &[u8], x: usize, y: usize, out: &mut [u8]) -> Resolved
 pub fn resolve_pack(s: &[u8], out: &mut [u8]) -> Resolved
     ensures { λ r. ⌜ ofResolved r (now (out .exit)) ≡ located (resolvePack (now (s .entry))) (now (out .entry)) ⌝ }
 {
-    let p = locate(s);
+    let p = place_of(s);
     match p {
         Place::At(x, y) => resolve_at(s, x, y, out),
         Place::Nothing => Resolved::Refused(9),

@@ -28,16 +28,16 @@ use Rattle.contract.specs.Holds.{Holds}
 use Rattle.contract.specs.Searches.{Bounded, Counted}
 use Rattle.contract.proofs.ItemRows.{items-le, item-tag, item-prefix, item-bound}
 use Rattle.parts.specs.Runs.{run, inGroup, Ending, Ended, Judged, Grouped, PartOf}
-use Rattle.parts.proofs.LastItems.{mark, tagIn, Numbered, Agreeing, part-told}
+use Rattle.parts.proofs.LastItems.{mark, tagIn, Ascending, Agreeing, part-told}
 
 -- ITEMS OF ONE GROUP stand by number, and agree
 module _ (p : Bytes) (g : List Item) (a : Each (λ (i : Item). inGroup p i ≡ true) g) where
   same-prefix : (i j : Item) → (inGroup p i ≡ true) × (inGroup p j ≡ true) → fold (prefixOf (i .name)) ≡ fold (prefixOf (j .name))
   same-prefix i j e = equivalent-fold (prefixOf (i .name)) p (e .0) ∙ sym (equivalent-fold (prefixOf (j .name)) p (e .1))
 
-  run-numbered : Sorted keyOfItem g → Numbered g
+  run-ascending : Sorted keyOfItem g → Ascending g
   unfolding order
-  run-numbered s =
+  run-ascending s =
       pairs-map (λ (i j : Item). ((inGroup p i ≡ true) × (inGroup p j ≡ true)) × (before (keyOfItem i) (keyOfItem j) ≡ true)) (λ (i j : Item). rank (mark i) < rank (mark j)) g
       (λ i j e. number-less (rank (mark i)) (rank (mark j)) (goes-on-less (keyOfItem i) (keyOfItem j) (e .1) (same-prefix i j (e .0))))
       (pairs-both (λ (i j : Item). (inGroup p i ≡ true) × (inGroup p j ≡ true)) (λ (i j : Item). before (keyOfItem i) (keyOfItem j) ≡ true) g (pairs-each (λ (i : Item). inGroup p i ≡ true) g a) s)
@@ -96,7 +96,7 @@ module _ (b : List ℕ) (f t : ℕ) where
         getD-take (t - f) (drop f (S .items)) (t - f - 1) noItem (omega arith) ∙ getD-drop f (S .items) (t - f - 1) noItem ∙ ap (λ (k : ℕ). getD (S .items) k noItem) z
         in
         part-told r (t - f) u (length-take-le (t - f) (drop f (S .items)) (rw length-drop (omega arith))) (omega arith)
-        (run-numbered p r a (part-of-pairs (λ (i j : Item). before (keyOfItem i) (keyOfItem j) ≡ true) (S .items) (h .good .items .sorted)))
+        (run-ascending p r a (part-of-pairs (λ (i j : Item). before (keyOfItem i) (keyOfItem j) ≡ true) (S .items) (h .good .items .sorted)))
         (run-agreeing p r a (part-of-pairs Beside (S .items) (h .good .beside)))
         (eu (h .lies .sound .shape) (omega (arith, items-le b S h)) ∙ item-tag b S h (t - 1) (omega arith) ∙ ap (λ (i : Item). tagIn i) (sym at));
   }

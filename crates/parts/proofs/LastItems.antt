@@ -25,8 +25,8 @@ mark i = suffixOf (i .name)
 abbrev pub tagIn : Item → ℕ
 tagIn i = tagOf (mark i)
 
-abbrev pub Numbered : List Item → Type 0
-Numbered g = AllPairs (λ (i j : Item). rank (mark i) < rank (mark j)) g
+abbrev pub Ascending : List Item → Type 0
+Ascending g = AllPairs (λ (i j : Item). rank (mark i) < rank (mark j)) g
 
 abbrev pub Agreeing : List Item → Type 0
 Agreeing g = AllPairs (λ (i j : Item). disagrees (mark i) (mark j) ≡ false) g
@@ -36,7 +36,7 @@ abbrev end : Item → List Item → Item
 end i is = getD (i ∷ is) (length is) noItem
 
 -- numbers rise by one at least
-rank-end : (i : Item) (is : List Item) → Numbered (i ∷ is) → rank (mark i) + length is ≤ rank (mark (end i is))
+rank-end : (i : Item) (is : List Item) → Ascending (i ∷ is) → rank (mark i) + length is ≤ rank (mark (end i is))
 rank-end i [] h = omega arith
 rank-end i (j ∷ is) h = omega (arith, rank-end j is (h .1), h .0 .0)
 
@@ -59,7 +59,7 @@ not-last (Piece k true) (Piece j true) m d e = absurd (true≢false d)
 not-last (Piece k true) (Piece j false) m d e = absurd (omega arith)
 
 -- items whose numbers begin above k: complete from k on if the last item is the last piece of as many
-complete-end : (k : ℕ) (i : Item) (is : List Item) → k < rank (mark i) → Numbered (i ∷ is) → Agreeing (i ∷ is) → completeFrom k (i ∷ is) ≡ eqb (tagIn (end i is)) (2 * (k + suc (length is)) + 1)
+complete-end : (k : ℕ) (i : Item) (is : List Item) → k < rank (mark i) → Ascending (i ∷ is) → Agreeing (i ∷ is) → completeFrom k (i ∷ is) ≡ eqb (tagIn (end i is)) (2 * (k + suc (length is)) + 1)
 unfolding completeFrom
 complete-end k i [] l h a = one-piece k (mark i)
 complete-end k i (j ∷ is) l h a =
@@ -83,7 +83,7 @@ complete-end k i (j ∷ is) l h a =
 abbrev pub tells : ℕ → ℕ → Bool
 tells t n = eqb t 0 || eqb t (2 * n + 1)
 
-pub part-end : (i : Item) (is : List Item) → Numbered (i ∷ is) → Agreeing (i ∷ is) → tells (tagIn (end i is)) (suc (length is)) ≡ isPart (i ∷ is)
+pub part-end : (i : Item) (is : List Item) → Ascending (i ∷ is) → Agreeing (i ∷ is) → tells (tagIn (end i is)) (suc (length is)) ≡ isPart (i ∷ is)
 unfolding isPart any completeFrom
 part-end i is h a = go (mark i) refl is h a
   where
@@ -93,7 +93,7 @@ part-end i is h a = go (mark i) refl is h a
     two : (js : List Item) → eqb (suc (suc (length js))) 1 ≡ false
     two js = ne-eqb (suc (suc (length js))) 1 (λ e. omega arith)
 
-    go : (x : Suffix) → mark i ≡ x → (is : List Item) → Numbered (i ∷ is) → Agreeing (i ∷ is) →
+    go : (x : Suffix) → mark i ≡ x → (is : List Item) → Ascending (i ∷ is) → Agreeing (i ∷ is) →
         tells (tagIn (end i is)) (suc (length is)) ≡ (eqb (length (i ∷ is)) 1 && any (λ (j : Item). whole (mark j)) (i ∷ is) || completeFrom 0 (i ∷ is))
     go Whole e [] h a = rw e
     go Whole e (j ∷ js) h a = absurd (alone (mark j) (a .0 .0) (h .0 .0))
@@ -109,7 +109,7 @@ part-end i is h a = go (mark i) refl is h a
         ∙ sym (complete-end 0 i (j ∷ js) (omega (arith, ap rank e)) h a) ∙ sym (rw (two js))
 
 -- the same of a list of n items
-pub part-told : (g : List Item) (n t : ℕ) → length g ≡ n → 0 < n → Numbered g → Agreeing g → t ≡ tagIn (getD g (n - 1) noItem) → tells t n ≡ isPart g
+pub part-told : (g : List Item) (n t : ℕ) → length g ≡ n → 0 < n → Ascending g → Agreeing g → t ≡ tagIn (getD g (n - 1) noItem) → tells t n ≡ isPart g
 part-told [] n t l z h a e = absurd (omega arith)
 part-told (i ∷ is) n t l z h a e =
     let k : n - 1 ≡ length is = omega arith in

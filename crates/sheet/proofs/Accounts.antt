@@ -13,7 +13,7 @@ use Rattle.model.specs.Sheet.{linesOf, shown, sheet}
 use Rattle.contract.specs.Holds.{Holds}
 use Rattle.commands.specs.Feeding.{mostShown, rest, Round, Feeds, Ends}
 use Rattle.commands.specs.Inputs.{sheetCapacity}
-use Rattle.commands.proofs.FedLines.{open-none}
+use Rattle.commands.proofs.FedLines.{unended-none}
 use Rattle.sheet.specs.Passing.{passed-none, Passes}
 use Rattle.sheet.specs.Account.{Ready, Whole}
 
@@ -27,7 +27,7 @@ ready-begin p line out h w m = record {
   went = passed-none;
   state = empty sheetCapacity;
   holds = h;
-  begun = open-none line;
+  begun = unended-none line;
   wide = w;
   room = m;
   is = λ later. refl;

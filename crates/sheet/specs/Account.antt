@@ -8,7 +8,7 @@ use Rattle.model.specs.Sets.{Bytes}
 use Rattle.model.specs.Package.{State}
 use Rattle.model.specs.Sheet.{linesOf, shown, sheet}
 use Rattle.contract.specs.Holds.{Holds}
-use Rattle.lines.specs.Gathering.{Open}
+use Rattle.lines.specs.Gathering.{Unended}
 use Rattle.commands.specs.Feeding.{mostShown}
 use Rattle.sheet.specs.Passing.{Passed}
 
@@ -22,7 +22,7 @@ pub record Ready (p line : Bytes) (n : ℕ) (ahead out : Bytes) (read written : 
   pub went : Passed written printed
   pub state : State
   pub holds : Holds p state
-  pub begun : Open (take n line)
+  pub begun : Unended (take n line)
   pub wide : 1024 < length line
   pub room : mostShown ≤ length out
   pub is : (later : Bytes) → sheet (input ++ later) ≡ printed ++ shown state (linesOf (take n line ++ (ahead ++ later)))

@@ -8,15 +8,15 @@ use Rattle.pack.proofs.pack.resolve_pack.Tie as tie
 resolve-at-requires : tie.Need-resolve-at-requires
 resolve-at-requires c κs =
     let at-p = c .before .before in
-    let locate = at-p .before .before .locate in
-    placed-at _ _ _ _ (at-p .p .given .1) (locate .ensures)
+    let place-of = at-p .before .before .place-of in
+    placed-at _ _ _ _ (at-p .p .given .1) (place-of .ensures)
 
 returns-2 : tie.Need-returns-2
 returns-2 c =
-    let at-locate = c .before .before in
-    let at-args = at-locate .before .before .before in
+    let at-place-of = c .before .before in
+    let at-args = at-place-of .before .before .before in
     located-refused (resolvePack (at-args .args .s .now)) 9 (at-args .args .out .now) (omega arith)
-    (placed-none (at-args .args .s .now) _ (c .enum-told .given .1) (at-locate .locate .ensures))
+    (placed-none (at-args .args .s .now) _ (c .enum-told .given .1) (at-place-of .place-of .ensures))
 
 pub resolve-pack-spec : {M : Type 1} → statement M
 resolve-pack-spec =

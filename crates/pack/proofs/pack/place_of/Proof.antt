@@ -3,8 +3,8 @@ use native.Mathlib.Omega.{arith}
 use lib.Seq.{length-take-le}
 use borrow.Author.Needs.{needs}
 use Rattle.pack.proofs.Locating.{no-pack, no-authority, no-room, no-end, no-path, located-at}
-use Rattle.pack.proofs.pack.locate.Statement.{statement}
-use Rattle.pack.proofs.pack.locate.Tie as tie
+use Rattle.pack.proofs.pack.place_of.Statement.{statement}
+use Rattle.pack.proofs.pack.place_of.Tie as tie
 
 slice-aggregate-is-pack : tie.Need-slice-aggregate-is-pack
 slice-aggregate-is-pack c =
@@ -73,8 +73,8 @@ returns-6 c =
     located-at (args .s .now) _ _ _ _ (at-split .split .ensures) _ (at-is-pack .is-pack .ensures) (at-if1 .if1 .left) (at-if2 .if2 .left)
     (at-if3 .if3 .left) (at-if4 .if4 .left) _ (at-is-path .is-path .ensures) (c .if5 .left)
 
-pub locate-spec : {M : Type 1} → statement M
-locate-spec =
+pub place-of-spec : {M : Type 1} → statement M
+place-of-spec =
     tie.close
     (tie.spec
     (λ c κs. search needs) slice-aggregate-is-pack (λ c κs. search needs) returns returns-2 (λ c. search needs) returns-3 returns-4
