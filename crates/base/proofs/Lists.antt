@@ -1,11 +1,12 @@
 -- Parts of lists.
 -- Assumes nothing.
 use Prim.Native.Nat.{ℕ, zero, suc, _-_, _≤_}
-use mathlib.Core.Path.{_≡_}
-use mathlib.Core.List.{List, [], _∷_}
+use mathlib.Core.Path.{_≡_, refl, ap, _∙_}
+use mathlib.Core.List.{List, [], _∷_, _++_}
+use native.Mathlib.Nat.{add-zero}
 use native.Mathlib.Omega.{arith}
-use lib.ListN.{length, take, drop, length-drop}
-use lib.Seq.{take-all}
+use lib.ListN.{length, getD, take, drop, length-drop}
+use lib.Seq.{take-all, getD-drop}
 
 -- the part s[i..] of a slice
 pub take-rest : (s : List ℕ) (i : ℕ) → take (length s - i) (drop i s) ≡ drop i s
@@ -23,3 +24,12 @@ length-take-few (suc n) (x ∷ l) = omega (arith, length-take-few n l)
 
 pub length-part-le : (n i : ℕ) (s : List ℕ) → length (take n (drop i s)) ≤ length s
 length-part-le n i s = omega (arith, length-take-le-length n (drop i s), length-drop i s)
+
+-- what follows x in x ++ z
+pub getD-seam : (x z : List ℕ) → getD (x ++ z) (length x) 0 ≡ getD z 0 0
+getD-seam [] z = refl
+getD-seam (y ∷ x) z = getD-seam x z
+
+-- the first byte of a rest
+pub getD-rest : (i : ℕ) (s : List ℕ) → getD (drop i s) 0 0 ≡ getD s i 0
+getD-rest i s = getD-drop i s 0 0 ∙ ap (λ (k : ℕ). getD s k 0) (add-zero i)

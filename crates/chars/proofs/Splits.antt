@@ -82,7 +82,7 @@ all-imp p r h [] e = refl
 all-imp p r h (x ∷ l) e = and-true (r x) (all r l) (h x (and-left (p x) (all p l) e)) (all-imp p r h l (and-right (p x) (all p l) e))
 
 -- a text has a stretch; one that ends with b has an empty one more
-split-some : (b : ℕ) (s : List ℕ) → split b s ≡ [] → ⊥
+pub split-some : (b : ℕ) (s : List ℕ) → split b s ≡ [] → ⊥
 unfolding split
 split-some b [] e = let z : _≡_ {A = ℕ} 0 1 = cc in omega arith
 split-some b (x ∷ s) e = go (eqb x b) (split b s) e

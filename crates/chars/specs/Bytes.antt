@@ -30,6 +30,12 @@ colon = code ":"
 abbrev pub numberSign : ℕ
 numberSign = code "#"
 
+abbrev pub semicolon : ℕ
+semicolon = code ";"
+
+abbrev pub equalsSign : ℕ
+equalsSign = code "="
+
 abbrev pub underscore : ℕ
 underscore = code "_"
 

@@ -31,6 +31,10 @@ unfoldable pub firstOf : (ℕ → Bool) → List ℕ → ℕ
 firstOf p [] = 0
 firstOf p (x ∷ s) = cond (p x) 0 (suc (firstOf p s))
 
+-- where the first byte stands that fails p; the length if none does
+abbrev pub firstNot : (ℕ → Bool) → List ℕ → ℕ
+firstNot p s = firstOf (λ (x : ℕ). not (p x)) s
+
 -- where b first stands; the length if nowhere
 abbrev pub indexOf : ℕ → List ℕ → ℕ
 indexOf b s = firstOf (λ (x : ℕ). eqb x b) s

@@ -7,7 +7,7 @@ use Rattle.chars.specs.Characters.{ucschar, char2, char3, char4, nameTriplet, l
 use Rattle.chars.specs.Folding.{lower, equivalent, derivable, order, foldedOrder, endsIn}
 use Rattle.names.specs.Names.{segment, partName, reserved, extensionAt}
 use Rattle.names.specs.Items.{suffix, itemName}
-use Rattle.names.specs.Types.{token, mediaType, extension, identifier}
+use Rattle.names.specs.Types.{token, tokenPair, mediaType, extension, identifier}
 use Rattle.names.specs.Iris.{scheme, colonFirst, iri, packageIri}
 use Rattle.names.specs.Numbers.{value, numeral, digits}
 use Rattle.names.specs.Reading.{readNumber}
@@ -30,7 +30,7 @@ use Rattle.model.specs.Sheet.{withoutEmptyEnd, lineRead, listing, shown,
 unfoldable pub everything : Unit {0}
 unfolding digit letter hexDigit unreserved segmentByte continuation member same begins every firstOf lacks afterLast lastByte split
     tiled ucschar char2 char3 char4 nameTriplet longUnit unit lower equivalent derivable order foldedOrder endsIn segment partName
-    reserved extensionAt suffix itemName token mediaType extension identifier scheme colonFirst iri packageIri value numeral digits
+    reserved extensionAt suffix itemName token tokenPair mediaType extension identifier scheme colonFirst iri packageIri value numeral digits
     readNumber schemeLength authorityLength afterScheme afterAuthority afterPath schemeOf authorityOf pathOf queryOf fragmentOf
     recompose firstSegment rule turn turns removeDotSegments merge relativePath transform resolve sourceRefusal internal resolvePath
     internalRefusal targetRefusal resolveTarget resolveReference unfragmented escape escaped packIri partOrRoot compose slashed

@@ -8,14 +8,14 @@ use native.Mathlib.Omega.{arith}
 use lib.Dec.{leb, eqb}
 use lib.ListN.{length, getD, take, drop}
 use borrow.Author.Tests.{leb-true}
-use Rattle.chars.specs.Bytes.{slash, numberSign, dot, underscore, within, letter, member}
+use Rattle.chars.specs.Bytes.{slash, numberSign, dot, semicolon, underscore, within, letter, member}
 use Rattle.chars.specs.Lists.{split, all, every, indexOf, lacks, tiled}
 use Rattle.chars.specs.Characters.{unit}
 use Rattle.chars.specs.declared.search.Alphabet.the-variants.{Id}
 use Rattle.chars.specs.declared.units.Grammar.the-variants.{Segment, Iri}
 use Rattle.base.proofs.Bools.{and-left, and-right}
 use Rattle.names.specs.Names.{segment, partName}
-use Rattle.names.specs.Types.{token, mediaType, extension, identifier}
+use Rattle.names.specs.Types.{typeAndParameters, mediaType, extension, identifier}
 use Rattle.names.specs.Iris.{iri, colonFirst, scheme, schemeEnd, packageIri}
 
 within-both : (a b n : ℕ) → within a b n ≡ true → (a ≤ n) × (n ≤ b)
@@ -46,10 +46,7 @@ extension-some s e = omega (arith, extension-size s e .0)
 
 pub media-type-size : (s : List ℕ) → mediaType s ≡ true → (3 ≤ length s) × (length s ≤ 127)
 unfolding mediaType
-media-type-size s e =
-    let w = within 3 127 (length s) in
-    let f = token (take (indexOf slash s) s) in
-    within-both 3 127 (length s) (and-left w f (and-left (w && f) (token (drop (indexOf slash s + 1) s)) e))
+media-type-size s e = within-both 3 127 (length s) (and-left (within 3 127 (length s)) (typeAndParameters (split semicolon s)) e)
 
 module _ (s : List ℕ) (e : identifier s ≡ true) where
   pub identifier-size : (1 ≤ length s) × (length s ≤ 63)

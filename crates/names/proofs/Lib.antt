@@ -1,3 +1,4 @@
+pub mod Tokens
 pub mod Media
 pub mod Digits
 pub mod Suffixes

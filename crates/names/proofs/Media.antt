@@ -1,31 +1,146 @@
--- A media type, from what its tokens' judge ensures.
+-- A media type, judged: two tokens from a position on, and the stretches between semicolons one after the other.
 -- Assumes nothing.
-use mathlib.Core.Path.{_≡_, refl}
-use mathlib.Core.Bool.{Bool, false, _&&_}
-use mathlib.Core.List.{List, []}
-use Prim.Native.Nat.{ℕ, _+_, _-_, _≤_}
+use mathlib.Core.Path.{_≡_, refl, sym, ap, _∙_}
+use mathlib.Core.Bool.{Bool, true, false, not, _&&_, _||_, cond, false≢true}
+use mathlib.Core.List.{List, [], _∷_}
+use mathlib.Core.Logic.{⊎-elim}
+use Prim.Native.Nat.{ℕ, suc, _+_, _-_, _≤_, _<_}
+use native.Mathlib.Nat.{eq-or-lt-of-le, add-zero}
 use native.Mathlib.Omega.{arith}
-use lib.Dec.{leb}
-use lib.ListN.{length, take, drop, drop-of-length-le}
-use borrow.Author.Tests.{le-leb}
-use Rattle.chars.specs.Bytes.{slash}
-use Rattle.chars.specs.Lists.{indexOf}
-use Rattle.base.proofs.Bools.{and-false, and-right-true}
-use Rattle.base.proofs.Lists.{take-rest}
-use Rattle.chars.proofs.Searches.{index-found}
-use Rattle.names.specs.Types.{token, mediaType}
+use lib.Dec.{eqb, ltb}
+use lib.ListN.{length, take, drop, getD, length-drop}
+use lib.Seq.{take-length, drop-drop, getD-drop}
+use borrow.Author.Tests.{ltb-true, eqb-true, eqb-false, eq-eqb, ne-eqb, lt-ltb, not-true, not-false}
+use Rattle.chars.specs.Bytes.{slash, semicolon, equalsSign, member}
+use Rattle.chars.specs.Lists.{indexOf, firstNot, split, all}
+use Rattle.chars.specs.declared.search.Alphabet.the-variants.{Token}
+use Rattle.base.proofs.Bools.{and-true, or-false-left, or-false-right, and-right-true}
+use Rattle.chars.proofs.Searches.{first-le, index-le}
+use Rattle.chars.proofs.Splits.{split-last, split-more, split-some}
+use Rattle.names.specs.Types.{tokenPair, typeAndParameters}
+use Rattle.names.specs.Reading.{Parts, pairLength}
+use Rattle.names.proofs.Tokens.{firstEnd, secondEnd, PairRead, pair-read, pair-made, slash-parts, equals-parts}
 
-no-token : token [] ≡ false
-unfolding token
-no-token = refl
+module _ (b : ℕ) (h : Parts b) where
+  unread : (u : List ℕ) → (PairRead b u → ⊥) → pairLength b u ≡ 0
+  unfolding pairLength
+  unread u f = go (tokenPair b (take (indexOf semicolon u) u)) refl
+    where
+      go : (q : Bool) → tokenPair b (take (indexOf semicolon u) u) ≡ q → cond q (indexOf semicolon u) 0 ≡ 0
+      go true e = absurd (f (pair-read b h u e))
+      go false e = refl
 
-module _ (s : List ℕ) (i : ℕ) (e : i ≡ 0 + indexOf slash s) where
-  pub media-is : (r t : Bool) → length s ≤ 127 → r ≡ token (take i s) → t ≡ token (take (length s - (i + 1)) (drop (i + 1) s)) → (leb 3 (length s) && r && t) ≡ mediaType s
-  unfolding mediaType
-  media-is r t l p q = rw (p, q, take-rest s (i + 1), index-found slash s i e, le-leb (length s) 127 l, and-right-true)
+  -- the token from the position `from` on ends at i, the one from i + 1 on at e
+  module _ (s : List ℕ) (from i e : ℕ) (here : i ≡ from + firstEnd (drop from s)) (there : e ≡ i + 1 + firstNot (member Token) (drop (i + 1) s)) where
+    first-byte : getD (drop from s) (firstEnd (drop from s)) 0 ≡ getD s i 0
+    first-byte = getD-drop from s (firstEnd (drop from s)) 0 ∙ ap (λ (n : ℕ). getD s n 0) (sym here)
 
-  pub media-no : length s ≤ i → mediaType s ≡ false
-  unfolding mediaType
-  media-no h =
-      let g : length s ≤ i + 1 = omega arith in
-      rw (index-found slash s i e, drop-of-length-le s g, no-token, and-false)
+    second-is : e ≡ from + secondEnd (drop from s)
+    second-is =
+        let n : i + 1 ≡ from + (firstEnd (drop from s) + 1) = omega arith in
+        let r : drop (i + 1) s ≡ drop (firstEnd (drop from s) + 1) (drop from s) = ap (λ (k : ℕ). drop k s) n ∙ sym (drop-drop (firstEnd (drop from s) + 1) from s) in
+        there ∙ ap (λ (l : List ℕ). i + 1 + firstNot (member Token) l) r ∙ omega arith
+
+    second-byte : getD (drop from s) (secondEnd (drop from s)) 0 ≡ getD s e 0
+    second-byte = getD-drop from s (secondEnd (drop from s)) 0 ∙ ap (λ (n : ℕ). getD s n 0) (sym second-is)
+
+    read-not : (PairRead b (drop from s) → ⊥) → from ≡ from + pairLength b (drop from s)
+    read-not f = sym (ap (λ (n : ℕ). from + n) (unread (drop from s) f) ∙ add-zero from)
+
+    module _ (x : ℕ) (read : x ≡ getD s i 0) where
+      pub no-first : (eqb i from || not (eqb x b)) ≡ true → from ≡ from + pairLength b (drop from s)
+      no-first t = read-not no
+        where
+          no : PairRead b (drop from s) → ⊥
+          no r =
+              let f : (eqb i from || not (eqb x b)) ≡ false = rw (ne-eqb i from (λ q. omega (arith, r .some)), eq-eqb x b (read ∙ sym first-byte ∙ r .parted)) in
+              false≢true (sym f ∙ t)
+
+      pub first-within : (eqb i from || not (eqb x b)) ≡ false → i ≤ length s
+      first-within t =
+          omega (arith, eqb-false i from (or-false-left (eqb i from) _ t), first-le (λ (c : ℕ). not (member Token c)) (drop from s), length-drop from s)
+
+      module _ (y : ℕ) (last : y ≡ getD s e 0) where
+        pub no-second : (eqb e (i + 1) || (ltb e (length s) && not (eqb y semicolon))) ≡ true → from ≡ from + pairLength b (drop from s)
+        no-second t = read-not (λ r. false≢true (sym (no r (ltb e (length s)) refl) ∙ t))
+          where
+            no : PairRead b (drop from s) → (q : Bool) → ltb e (length s) ≡ q → (eqb e (i + 1) || (q && not (eqb y semicolon))) ≡ false
+            no r true q =
+                let l : secondEnd (drop from s) < length (drop from s) = omega (arith, ltb-true e (length s) q, second-is, length-drop from s) in
+                rw (ne-eqb e (i + 1) (λ z. omega (arith, r .more, second-is)), eq-eqb y semicolon (last ∙ sym second-byte ∙ r .ended l))
+            no r false q = rw (ne-eqb e (i + 1) (λ z. omega (arith, r .more, second-is)))
+
+        pub both : (eqb i from || not (eqb x b)) ≡ false → (eqb e (i + 1) || (ltb e (length s) && not (eqb y semicolon))) ≡ false → e ≡ from + pairLength b (drop from s)
+        both t v = second-is ∙ ap (λ (n : ℕ). from + n) (sym (pair-made b h (drop from s) seen))
+          where
+            ends : ltb e (length s) ≡ true → not (eqb y semicolon) ≡ false
+            ends q = ap (λ (z : Bool). z && not (eqb y semicolon)) (sym q) ∙ or-false-right (eqb e (i + 1)) _ v
+            seen : PairRead b (drop from s)
+            seen = record {
+              some = omega (arith, eqb-false i from (or-false-left (eqb i from) _ t));
+              parted = first-byte ∙ sym read ∙ eqb-true x b (not-false _ (or-false-right (eqb i from) _ t));
+              more = omega (arith, second-is, eqb-false e (i + 1) (or-false-left (eqb e (i + 1)) _ v));
+              ended = λ l. second-byte ∙ sym last ∙ eqb-true y semicolon (not-false _ (ends (lt-ltb e (length s) (omega (arith, l, second-is, length-drop from s)))));
+            }
+
+-- stretches of which b parts the first into tokens, and `=` each other
+abbrev pub headed : ℕ → List (List ℕ) → Bool
+headed b [] = false
+headed b (t ∷ ps) = tokenPair b t && all (tokenPair equalsSign) ps
+
+pub type-headed : (l : List (List ℕ)) → typeAndParameters l ≡ headed slash l
+type-headed [] = refl
+type-headed (t ∷ ps) = refl
+
+all-headed : (l : List (List ℕ)) → (l ≡ [] → ⊥) → all (tokenPair equalsSign) l ≡ headed equalsSign l
+all-headed [] n = absurd (n refl)
+all-headed (t ∷ ps) n = refl
+
+-- a walk over them has come to i, and the pair from there on ends at e
+module _ (b : ℕ) (h : Parts b) (s : List ℕ) (i e : ℕ) (in-s : i ≤ length s) (here : e ≡ i + pairLength b (drop i s)) where
+  first-pair : (q : Bool) → tokenPair b (take (indexOf semicolon (drop i s)) (drop i s)) ≡ q → e ≡ i + cond q (indexOf semicolon (drop i s)) 0
+  unfolding pairLength
+  first-pair q t = here ∙ rw t
+
+  -- the stretch is the last one
+  whole-rest : indexOf semicolon (drop i s) ≡ length (drop i s) → take (indexOf semicolon (drop i s)) (drop i s) ≡ drop i s
+  whole-rest m = rw (m) (take-length (drop i s))
+
+  pub stretches-not : e ≡ i → headed b (split semicolon (drop i s)) ≡ false
+  stretches-not z = ⊎-elim
+      (λ m. rw (split-last semicolon (drop i s) m, ← whole-rest m, no-pair))
+      (λ l. rw (split-more semicolon (drop i s) l, no-pair))
+      (eq-or-lt-of-le (index-le semicolon (drop i s)))
+    where
+      go : (q : Bool) → tokenPair b (take (indexOf semicolon (drop i s)) (drop i s)) ≡ q → q ≡ false
+      go true t = absurd (omega (arith, here, z, pair-made b h (drop i s) (pair-read b h (drop i s) t)))
+      go false t = refl
+      no-pair : tokenPair b (take (indexOf semicolon (drop i s)) (drop i s)) ≡ false
+      no-pair = go _ refl
+
+  module _ (n : e ≡ i → ⊥) where
+    pair-there : tokenPair b (take (indexOf semicolon (drop i s)) (drop i s)) ≡ true
+    pair-there = go (tokenPair b (take (indexOf semicolon (drop i s)) (drop i s))) refl
+      where
+        go : (q : Bool) → tokenPair b (take (indexOf semicolon (drop i s)) (drop i s)) ≡ q → q ≡ true
+        go true t = refl
+        go false t = absurd (n (omega (arith, first-pair false t)))
+
+    ends-there : e ≡ i + indexOf semicolon (drop i s)
+    ends-there = first-pair true pair-there
+
+    pub stretches-within : e ≤ length s
+    stretches-within = omega (arith, ends-there, index-le semicolon (drop i s), length-drop i s)
+
+    pub stretches-last : e ≡ length s → headed b (split semicolon (drop i s)) ≡ true
+    stretches-last l =
+        let m : indexOf semicolon (drop i s) ≡ length (drop i s) = omega (arith, ends-there, length-drop i s) in
+        let t : tokenPair b (drop i s) ≡ true = ap (tokenPair b) (sym (whole-rest m)) ∙ pair-there in
+        rw (split-last semicolon (drop i s) m, t)
+
+    pub stretches-more : (e ≡ length s → ⊥) → headed b (split semicolon (drop i s)) ≡ headed equalsSign (split semicolon (drop (e + 1) s))
+    stretches-more l =
+        let m : indexOf semicolon (drop i s) < length (drop i s) = omega (arith, ends-there, stretches-within, length-drop i s) in
+        let k : i + suc (indexOf semicolon (drop i s)) ≡ e + 1 = omega (arith, ends-there) in
+        let d : drop (suc (indexOf semicolon (drop i s))) (drop i s) ≡ drop (e + 1) s = drop-drop _ i s ∙ ap (λ (j : ℕ). drop j s) k in
+        rw (split-more semicolon (drop i s) m, pair-there, d) (all-headed (split semicolon (drop (e + 1) s)) (split-some semicolon (drop (e + 1) s)))

@@ -12,9 +12,11 @@ use crate::table::class;
 use crate::table::table;
 use chars::search::Alphabet;
 ghost use mathlib.Core.Path.{_≡_};
+ghost use Prim.Native.Nat.{_+_};
+ghost use lib.ListN.{drop};
 ghost use Rattle.chars.specs.Bytes.{member};
 ghost use Rattle.chars.specs.Classes.{classes};
-ghost use Rattle.chars.specs.Lists.{every, firstOf};
+ghost use Rattle.chars.specs.Lists.{every, firstOf, firstNot};
 
 pub(crate) fn is_member(t: &[u8; 256], a: Alphabet, b: u8) -> bool
     requires { ⌜ now t ≡ classes ⌝ }
@@ -31,19 +33,26 @@ pub(crate) fn is_member(t: &[u8; 256], a: Alphabet, b: u8) -> bool
     }
 }
 
+// The index of the first byte outside the set from index `from` on, or the length.
+pub(crate) fn past_members(t: &[u8; 256], a: Alphabet, s: &[u8], from: usize) -> usize
+    requires { ⌜ now t ≡ classes ⌝ }
+    ensures { λ r. ⌜ r ≡ from + firstNot (member a) (drop from (now (s .entry))) ⌝ }
+{
+    let mut i = from;
+    while i < s.len() {
+        if !is_member(t, a, s[i]) {
+            return i;
+        }
+        i += 1;
+    }
+    i
+}
+
 pub(crate) fn all_members(t: &[u8; 256], a: Alphabet, s: &[u8]) -> bool
     requires { ⌜ now t ≡ classes ⌝ }
     ensures { λ r. ⌜ r ≡ every (member a) (now (s .entry)) ⌝ }
 {
-    let mut i = 0;
-    while i < s.len() {
-        if is_member(t, a, s[i]) {
-            i += 1;
-        } else {
-            return false;
-        }
-    }
-    true
+    past_members(t, a, s, 0) == s.len()
 }
 
 pub(crate) fn first_by(t: &[u8; 256], a: Alphabet, s: &[u8]) -> usize

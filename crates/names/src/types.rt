@@ -1,36 +1,67 @@
 // Media types, extensions, relationship ids.
 use crate::members::all_members;
+use crate::members::past_members;
 use crate::table::is_letter;
 use crate::table::table;
 use crate::units::all_units;
 use base::bytes::byte_at;
 use chars::search::Alphabet;
-use chars::search::find;
 use chars::search::has_no;
 use chars::units::Grammar;
 ghost use mathlib.Core.Path.{_≡_};
+ghost use Prim.Native.Nat.{_+_};
+ghost use lib.ListN.{drop};
+ghost use Rattle.chars.specs.Bytes.{semicolon};
 ghost use Rattle.chars.specs.Classes.{classes};
-ghost use Rattle.names.specs.Types.{token, mediaType, extension, identifier};
+ghost use Rattle.chars.specs.Lists.{split};
+ghost use Rattle.names.specs.Types.{typeAndParameters, mediaType, extension, identifier};
+ghost use Rattle.names.specs.Reading.{Parts, pairLength};
 
-fn is_token(t: &[u8; 256], s: &[u8]) -> bool
-    requires { ⌜ now t ≡ classes ⌝ }
-    ensures { λ r. ⌜ r ≡ token (now (s .entry)) ⌝ }
+// Where a token, the byte b and a token end that start at `from`, and with them a stretch between semicolons; `from` if they don't.
+fn pair_end(t: &[u8; 256], s: &[u8], from: usize, b: u8) -> usize
+    requires { ⌜ (now t ≡ classes) × Parts b ⌝ }
+    ensures { λ r. ⌜ r ≡ from + pairLength b (drop from (now (s .entry))) ⌝ }
 {
-    (s.len() != 0) & all_members(t, Alphabet::Token, s)
+    let i = past_members(t, Alphabet::Token, s, from);
+    if (i == from) | (byte_at(s, i) != b) {
+        return from;
+    }
+    let j = i + 1;
+    let e = past_members(t, Alphabet::Token, s, j);
+    if (e == j) | ((e < s.len()) & (byte_at(s, e) != b';')) {
+        return from;
+    }
+    e
+}
+
+// The stretches between semicolons: a slash parts the first, `=` each other.
+fn is_type_and_parameters(t: &[u8; 256], s: &[u8]) -> bool
+    requires { ⌜ now t ≡ classes ⌝ }
+    ensures { λ r. ⌜ r ≡ typeAndParameters (split semicolon (now (s .entry))) ⌝ }
+{
+    let n = s.len();
+    let mut i = 0;
+    let mut b = b'/';
+    loop {
+        let e = pair_end(t, s, i, b);
+        if e == i {
+            return false;
+        }
+        if e == n {
+            return true;
+        }
+        i = e + 1;
+        b = b'=';
+    }
 }
 
 pub fn is_media_type(s: &[u8]) -> bool
     ensures { λ r. ⌜ r ≡ mediaType (now (s .entry)) ⌝ }
 {
     let n = s.len();
-    if 127 < n {
-        return false;
-    }
-    let i = find(s, 0, b'/');
-    if i < n {
-        let j = i + 1;
+    if (3 <= n) & (n <= 127) {
         let t = table();
-        return (3 <= n) & is_token(&t, &s[..i]) & is_token(&t, &s[j..]);
+        return is_type_and_parameters(&t, s);
     }
     false
 }
