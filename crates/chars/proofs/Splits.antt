@@ -1,8 +1,8 @@
 -- The stretches of a text between its bytes b, walked from the position i on.
 -- Assumes nothing.
 use mathlib.Core.Path.{_≡_, refl, sym, ap, _∙_}
-use mathlib.Core.Bool.{Bool, true, false, _&&_, cond}
-use mathlib.Core.List.{List, [], _∷_, _++_}
+use mathlib.Core.Bool.{Bool, true, false, not, _&&_, cond, false≢true}
+use mathlib.Core.List.{List, [], _∷_, _++_, flatMap}
 use mathlib.Core.Logic.{⊎-elim}
 use Prim.Native.Nat.{ℕ, suc, _+_, _-_, _≤_, _<_}
 use native.Mathlib.Nat.{le-of-suc-le-suc, not-suc-le-zero, eq-or-lt-of-le}
@@ -10,7 +10,7 @@ use native.Mathlib.Omega.{arith}
 use lib.Dec.{eqb}
 use lib.ListN.{length, take, drop, length-drop}
 use lib.Seq.{drop-drop, take-all}
-use borrow.Author.Tests.{eqb-true}
+use borrow.Author.Tests.{eqb-true, eq-eqb}
 use Rattle.chars.specs.Lists.{every, firstOf, indexOf, split, cut, all}
 use Rattle.base.proofs.Bools.{and-left, and-right, and-true}
 use Rattle.chars.proofs.Searches.{index-le}
@@ -63,6 +63,27 @@ module _ (b : ℕ) where
       pub all-not : p (take (e - i) (drop i s)) ≡ false → all p (split b (drop i s)) ≡ false
       all-not f = ⊎-elim (λ q. rw (last-is q, f)) (λ l. rw (more-is l, f)) (eq-or-lt-of-le stretch-le)
 
+-- where w holds no b: alone it is one stretch, before a b the first
+module _ (b : ℕ) where
+  pub split-whole : (w : List ℕ) → every (λ (x : ℕ). not (eqb x b)) w ≡ true → split b w ≡ w ∷ []
+  unfolding split every
+  split-whole [] e = refl
+  split-whole (x ∷ w) e = go (eqb x b) (λ f. split-whole w f) e
+    where
+      go : (q : Bool) → (every (λ (y : ℕ). not (eqb y b)) w ≡ true → split b w ≡ w ∷ []) → (not q && every (λ (y : ℕ). not (eqb y b)) w) ≡ true → cut q x (split b w) ≡ (x ∷ w) ∷ []
+      go true ih f = absurd (false≢true f)
+      go false ih f = ap (cut false x) (ih f)
+
+  pub split-append : (w s : List ℕ) → every (λ (x : ℕ). not (eqb x b)) w ≡ true → split b (w ++ b ∷ s) ≡ w ∷ split b s
+  unfolding split every
+  split-append [] s e = rw (eq-eqb b b refl)
+  split-append (x ∷ w) s e = go (eqb x b) (λ f. split-append w s f) e
+    where
+      go : (q : Bool) → (every (λ (y : ℕ). not (eqb y b)) w ≡ true → split b (w ++ b ∷ s) ≡ w ∷ split b s) → (not q && every (λ (y : ℕ). not (eqb y b)) w) ≡ true
+          → cut q x (split b (w ++ b ∷ s)) ≡ (x ∷ w) ∷ split b s
+      go true ih f = absurd (false≢true f)
+      go false ih f = ap (cut false x) (ih f)
+
 -- what every byte of every stretch passes, and b, every byte passes
 pub split-every : (b : ℕ) (q : ℕ → Bool) → q b ≡ true → (s : List ℕ) → all (every q) (split b s) ≡ true → every q s ≡ true
 unfolding split every
@@ -91,6 +112,21 @@ split-some b (x ∷ s) e = go (eqb x b) (split b s) e
     go true l e = let z : _≡_ {A = ℕ} 0 1 = cc in omega arith
     go false [] e = let z : _≡_ {A = ℕ} 0 1 = cc in omega arith
     go false (y ∷ l) e = let z : _≡_ {A = ℕ} 0 1 = cc in omega arith
+
+-- the stretches with a b before each but the first
+abbrev pub rejoin : ℕ → List (List ℕ) → List ℕ
+rejoin b [] = []
+rejoin b (w ∷ l) = w ++ flatMap (λ (v : List ℕ). b ∷ v) l
+
+pub rejoin-split : (b : ℕ) (s : List ℕ) → rejoin b (split b s) ≡ s
+unfolding split flatMap
+rejoin-split b [] = refl
+rejoin-split b (x ∷ s) = go (eqb x b) refl (split b s) (split-some b s) (rejoin-split b s)
+  where
+    go : (q : Bool) → eqb x b ≡ q → (l : List (List ℕ)) → (l ≡ [] → ⊥) → rejoin b l ≡ s → rejoin b (cut q x l) ≡ x ∷ s
+    go q e [] n ih = absurd (n refl)
+    go true e (w ∷ l) n ih = rw (← ih, eqb-true x b e)
+    go false e (w ∷ l) n ih = rw (← ih)
 
 pub split-snoc : (s : List ℕ) → split slash (s ++ slash ∷ []) ≡ split slash s ++ [] ∷ []
 unfolding split

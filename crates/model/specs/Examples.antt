@@ -1,9 +1,10 @@
--- The marked (M) examples of document 01 and its examples of a resolved path and of the program `sheet`: tables, and a theorem over each.
+-- The marked (M) examples of document 01 and its examples of a resolved path and of the program `sheet`; examples of document 02: tables, and a
+-- theorem over each.
 -- Assumes nothing.
 use Prim.Native.Nat.{ℕ, _+_}
 use Prim.Native.String.{String}
 use mathlib.Core.Path.{_≡_, refl}
-use mathlib.Core.List.{List, [], _∷_, _++_, map}
+use mathlib.Core.List.{List, [], _∷_, _++_, map, flatMap}
 use lib.ListN.{length, replicate}
 use Rattle.chars.specs.Bytes.{ascii}
 use Rattle.output.specs.Answers.{Answer, answer}
@@ -13,6 +14,7 @@ use Rattle.model.specs.Package.{empty}
 use Rattle.model.specs.Calls.{Call, Start, Looks, Changes, Prints, Find, Totals, PutItem, DropItem, PutDefault, PutOverride}
 use Rattle.model.specs.Calls.{PutRelationship, ReadPart, MediaType, PartAt, ResolveRelationship, WriteTypes, WriteRelationships, done}
 use Rattle.model.specs.Calls.{refused, overhead, answers}
+use Rattle.model.specs.Texts.{line}
 use Rattle.model.specs.Sheet.{sheet}
 use Rattle.model.specs.Opened.{everything}
 
@@ -133,3 +135,45 @@ others =
 pub others-hold : Holds others
 unfolding others everything
 others-hold = refl
+
+-- a Default with this type
+abbrev pub typing : Bytes → Call
+typing type = Changes (PutDefault (ascii "tif") type)
+
+-- a type with n parameters of 4 bytes
+abbrev pub crowded : ℕ → Bytes
+crowded n = ascii "a/b" ++ flatMap (λ (k : ℕ). ascii ";c=d") (replicate n 0)
+
+abbrev pub streamed : Bytes
+streamed =
+    line (ascii "<?xml version=\"1.0\" encoding=\"UTF-8\"?>")
+    ++ (line (ascii "<Types xmlns=\"http://schemas.openxmlformats.org/package/2006/content-types\">")
+    ++ (line (ascii "<Default Extension=\"tif\" ContentType=\"a/b;c=&amp;\"/>") ++ line (ascii "</Types>")))
+
+-- document 02, 1: "The technician's camera writes `image/tiff;page=2`." The text comes back as given, in the stream with & as `&amp;`, and from a
+-- sheet; what is no parameter; "The 127 bytes cover the whole."
+unfoldable pub parameters : List Row
+parameters =
+    calls (put "/t.tif" ∷ typing (ascii "image/tiff;page=2") ∷ Prints (MediaType (ascii "/T.TIF")) (replicate 17 0) ∷ [])
+    (done ∷ done ∷ answer 0 (17 ∷ []) (ascii "image/tiff;page=2") ∷ [])
+    ∷ calls (typing (ascii "a/b;c=&") ∷ Prints WriteTypes (replicate (length streamed) 0) ∷ []) (done ∷ answer 0 (length streamed ∷ []) streamed ∷ [])
+    ∷ text (sheet (ascii "P /t.tif x\nD tif image/tiff;page=2\nO /t.tif image/tiff;page\nL\n"))
+    (ascii "  0\n  0\n  7\n   1        1 /t.tif image/tiff;page=2\n")
+    ∷ one (typing (ascii "a/b;c=d;c=e")) done
+    ∷ one (typing (ascii "a/b;")) (refused 7)
+    ∷ one (typing (ascii "a/b;;c=d")) (refused 7)
+    ∷ one (typing (ascii "a/b;c")) (refused 7)
+    ∷ one (typing (ascii "a/b;c=")) (refused 7)
+    ∷ one (typing (ascii "a/b;=d")) (refused 7)
+    ∷ one (typing (ascii "a/b;c=d=e")) (refused 7)
+    ∷ one (typing (ascii "a/b;c=d/e")) (refused 7)
+    ∷ one (typing (ascii "a/b; c=d")) (refused 7)
+    ∷ one (typing (ascii "a/b;c=\"d\"")) (refused 7)
+    ∷ one (typing (ascii "a;c=d/b")) (refused 7)
+    ∷ one (typing (crowded 31)) done
+    ∷ one (typing (crowded 30 ++ ascii ";c=de")) (refused 7)
+    ∷ []
+
+pub parameters-hold : Holds parameters
+unfolding parameters everything
+parameters-hold = refl

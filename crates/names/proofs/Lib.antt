@@ -9,3 +9,4 @@ pub mod Spelling
 pub mod NameEnds
 pub mod Lengths
 pub mod FoldedNames
+pub mod MediaTypes

@@ -34,15 +34,31 @@ token-of s h e = rw (ne-eqb (length s) 0 (λ z. omega arith), e)
 
 pub slash-parts : Parts slash
 unfolding member letter digit
-slash-parts = record { outside = refl; within = refl }
+slash-parts = record { noToken = refl; noSemicolon = refl }
 
 pub equals-parts : Parts equalsSign
 unfolding member letter digit
-equals-parts = record { outside = refl; within = refl }
+equals-parts = record { noToken = refl; noSemicolon = refl }
 
 no-semicolon : member Token semicolon ≡ false
 unfolding member letter digit
 no-semicolon = refl
+
+-- a token, b, a token: taken apart
+module _ (b : ℕ) (s : List ℕ) (e : tokenPair b s ≡ true) where
+  pub first-of : token (take (indexOf b s) s) ≡ true
+  unfolding tokenPair
+  first-of = and-left (token (take (indexOf b s) s)) (token (drop (indexOf b s + 1) s)) e
+
+  pub second-of : token (drop (indexOf b s + 1) s) ≡ true
+  unfolding tokenPair
+  second-of = and-right (token (take (indexOf b s) s)) (token (drop (indexOf b s + 1) s)) e
+
+  pub pair-is : s ≡ take (indexOf b s) s ++ b ∷ drop (indexOf b s + 1) s
+  pair-is =
+      let i = indexOf b s in
+      let l : i < length s = omega (arith, token-some _ second-of, length-drop (i + 1) s) in
+      sym (take-append-drop i s) ∙ ap (λ (r : List ℕ). take i s ++ r) (drop-next s i l ∙ ap (λ (c : ℕ). c ∷ drop (i + 1) s) (at-index b s l))
 
 -- where the token ends with which u begins, and where the one ends that begins behind the next byte
 abbrev pub firstEnd : List ℕ → ℕ
@@ -59,38 +75,24 @@ pub record PairRead (b : ℕ) (u : List ℕ) : Type 0 where
   pub ended : secondEnd u < length u → getD u (secondEnd u) 0 ≡ semicolon
 
 module _ (b : ℕ) (h : Parts b) where
+  -- put together
   pub pair-of : (x y : List ℕ) → token x ≡ true → token y ≡ true → tokenPair b (x ++ b ∷ y) ≡ true
   unfolding tokenPair
   pair-of x y e f =
-      let n : indexOf b (x ++ b ∷ y) ≡ length x = index-append b x y (every-imp (member Token) (but b) (class-but (member Token) b (h .outside)) x (token-every x e)) in
+      let n : indexOf b (x ++ b ∷ y) ≡ length x = index-append b x y (every-imp (member Token) (but b) (class-but (member Token) b (h .noToken)) x (token-every x e)) in
       rw (n, take-append-seam x (b ∷ y), drop-append-add x (b ∷ y) 1, e, f)
-
-  -- taken apart again
-  module _ (s : List ℕ) (e : tokenPair b s ≡ true) where
-    pub first-of : token (take (indexOf b s) s) ≡ true
-    unfolding tokenPair
-    first-of = and-left (token (take (indexOf b s) s)) (token (drop (indexOf b s + 1) s)) e
-
-    pub second-of : token (drop (indexOf b s + 1) s) ≡ true
-    unfolding tokenPair
-    second-of = and-right (token (take (indexOf b s) s)) (token (drop (indexOf b s + 1) s)) e
-
-    pub pair-is : s ≡ take (indexOf b s) s ++ b ∷ drop (indexOf b s + 1) s
-    pair-is =
-        let l : indexOf b s < length s = omega (arith, token-some _ second-of, length-drop (indexOf b s + 1) s) in
-        sym (take-append-drop (indexOf b s) s) ∙ ap (λ (r : List ℕ). take (indexOf b s) s ++ r) (drop-next s (indexOf b s) l ∙ ap (λ (c : ℕ). c ∷ drop (indexOf b s + 1) s) (at-index b s l))
 
   -- no semicolon stands in it
   pub pair-lacks : (x y : List ℕ) → token x ≡ true → token y ≡ true → every (but semicolon) (x ++ b ∷ y) ≡ true
   unfolding every
   pair-lacks x y e f =
       let t = every-imp (member Token) (but semicolon) (class-but (member Token) semicolon no-semicolon) in
-      every-append (but semicolon) x (b ∷ y) (t x (token-every x e)) (and-true (but semicolon b) (every (but semicolon) y) (ap not (h .within)) (t y (token-every y f)))
+      every-append (but semicolon) x (b ∷ y) (t x (token-every x e)) (and-true (but semicolon b) (every (but semicolon) y) (ap not (h .noSemicolon)) (t y (token-every y f)))
 
   -- before z, which a semicolon begins unless it is empty
   module _ (x y z : List ℕ) (e : token x ≡ true) (f : token y ≡ true) (g : 0 < length z → getD z 0 0 ≡ semicolon) where
     first-ends : firstEnd (x ++ b ∷ (y ++ z)) ≡ length x
-    first-ends = first-not-append (member Token) x (b ∷ (y ++ z)) (token-every x e) (λ l. h .outside)
+    first-ends = first-not-append (member Token) x (b ∷ (y ++ z)) (token-every x e) (λ l. h .noToken)
 
     behind : drop (length x + 1) (x ++ b ∷ (y ++ z)) ≡ y ++ z
     behind = drop-append-add x (b ∷ (y ++ z)) 1
@@ -129,9 +131,9 @@ module _ (b : ℕ) (h : Parts b) where
       let x = take (indexOf b w) w in
       let y = drop (indexOf b w + 1) w in
       let z = drop m u in
-      let is : x ++ b ∷ (y ++ z) ≡ u = sym (append-assoc x (b ∷ y) z) ∙ ap (λ (l : List ℕ). l ++ z) (sym (pair-is w e)) ∙ take-append-drop m u in
+      let is : x ++ b ∷ (y ++ z) ≡ u = sym (append-assoc x (b ∷ y) z) ∙ ap (λ (l : List ℕ). l ++ z) (sym (pair-is b w e)) ∙ take-append-drop m u in
       let g : 0 < length z → getD z 0 0 ≡ semicolon = λ l. getD-rest m u ∙ at-index semicolon u (omega (arith, l, length-drop m u)) in
-      subst (PairRead b) is (read-of x y z (first-of w e) (second-of w e) g)
+      subst (PairRead b) is (read-of x y z (first-of b w e) (second-of b w e) g)
 
   -- and what is read so begins with such a pair
   pub pair-made : (u : List ℕ) → PairRead b u → pairLength b u ≡ secondEnd u

@@ -1,7 +1,7 @@
 pub mod Names
 pub mod Items
 pub mod Types
-pub mod Earlier
+pub mod Demand
 pub mod Iris
 pub mod Numbers
 pub mod Reading

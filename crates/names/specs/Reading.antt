@@ -18,8 +18,8 @@ readNumber v s = cond (every digit s && leb (value v s) 9999) (value v s) 10000
 
 -- b can stand between two tokens: no token holds it, and no stretch is cut at it
 pub record Parts (b : ℕ) : Type 0 where
-  pub outside : member Token b ≡ false
-  pub within : eqb b semicolon ≡ false
+  pub noToken : member Token b ≡ false
+  pub noSemicolon : eqb b semicolon ≡ false
 
 -- the length of the first stretch between semicolons, if it is a token, the byte b, a token; else 0
 unfoldable pub pairLength : ℕ → List ℕ → ℕ
