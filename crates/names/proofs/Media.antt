@@ -4,29 +4,30 @@ use mathlib.Core.Path.{_≡_, refl, sym, ap, _∙_}
 use mathlib.Core.Bool.{Bool, true, false, not, _&&_, _||_, cond, false≢true}
 use mathlib.Core.List.{List, [], _∷_}
 use mathlib.Core.Logic.{⊎-elim}
-use Prim.Native.Nat.{ℕ, suc, _+_, _-_, _≤_, _<_}
+use Prim.Native.Nat.{ℕ, suc, _+_, _≤_, _<_}
 use native.Mathlib.Nat.{eq-or-lt-of-le, add-zero}
 use native.Mathlib.Omega.{arith}
 use lib.Dec.{eqb, ltb}
-use lib.ListN.{length, take, drop, getD, length-drop}
+use lib.ListN.{length, drop, getD, length-drop}
 use lib.Seq.{take-length, drop-drop, getD-drop}
-use borrow.Author.Tests.{ltb-true, eqb-true, eqb-false, eq-eqb, ne-eqb, lt-ltb, not-true, not-false}
+use borrow.Author.Tests.{ltb-true, eqb-true, eqb-false, eq-eqb, ne-eqb, lt-ltb, not-false}
 use Rattle.chars.specs.Bytes.{slash, semicolon, equalsSign, member}
 use Rattle.chars.specs.Lists.{indexOf, firstNot, split, all}
 use Rattle.chars.specs.declared.search.Alphabet.the-variants.{Token}
-use Rattle.base.proofs.Bools.{and-true, or-false-left, or-false-right, and-right-true}
+use Rattle.base.proofs.Bools.{or-false-left, or-false-right}
 use Rattle.chars.proofs.Searches.{first-le, index-le}
 use Rattle.chars.proofs.Splits.{split-last, split-more, split-some}
 use Rattle.names.specs.Types.{tokenPair, typeAndParameters}
-use Rattle.names.specs.Reading.{Parts, pairLength}
-use Rattle.names.proofs.Tokens.{firstEnd, secondEnd, PairRead, pair-read, pair-made, slash-parts, equals-parts}
+use Rattle.names.specs.Reading.{Parts, stretch, pairLength}
+use Rattle.names.proofs.Tokens.{firstEnd, secondEnd, PairRead, pair-read, pair-made}
 
 module _ (b : ℕ) (h : Parts b) where
+  -- what is not read so has no pair
   unread : (u : List ℕ) → (PairRead b u → ⊥) → pairLength b u ≡ 0
   unfolding pairLength
-  unread u f = go (tokenPair b (take (indexOf semicolon u) u)) refl
+  unread u f = go (tokenPair b (stretch u)) refl
     where
-      go : (q : Bool) → tokenPair b (take (indexOf semicolon u) u) ≡ q → cond q (indexOf semicolon u) 0 ≡ 0
+      go : (q : Bool) → tokenPair b (stretch u) ≡ q → cond q (indexOf semicolon u) 0 ≡ 0
       go true e = absurd (f (pair-read b h u e))
       go false e = refl
 
@@ -48,8 +49,8 @@ module _ (b : ℕ) (h : Parts b) where
     read-not f = sym (ap (λ (n : ℕ). from + n) (unread (drop from s) f) ∙ add-zero from)
 
     module _ (x : ℕ) (read : x ≡ getD s i 0) where
-      pub no-first : (eqb i from || not (eqb x b)) ≡ true → from ≡ from + pairLength b (drop from s)
-      no-first t = read-not no
+      pub first-missing : (eqb i from || not (eqb x b)) ≡ true → from ≡ from + pairLength b (drop from s)
+      first-missing t = read-not no
         where
           no : PairRead b (drop from s) → ⊥
           no r =
@@ -61,8 +62,8 @@ module _ (b : ℕ) (h : Parts b) where
           omega (arith, eqb-false i from (or-false-left (eqb i from) _ t), first-le (λ (c : ℕ). not (member Token c)) (drop from s), length-drop from s)
 
       module _ (y : ℕ) (last : y ≡ getD s e 0) where
-        pub no-second : (eqb e (i + 1) || (ltb e (length s) && not (eqb y semicolon))) ≡ true → from ≡ from + pairLength b (drop from s)
-        no-second t = read-not (λ r. false≢true (sym (no r (ltb e (length s)) refl) ∙ t))
+        pub second-missing : (eqb e (i + 1) || (ltb e (length s) && not (eqb y semicolon))) ≡ true → from ≡ from + pairLength b (drop from s)
+        second-missing t = read-not (λ r. false≢true (sym (no r (ltb e (length s)) refl) ∙ t))
           where
             no : PairRead b (drop from s) → (q : Bool) → ltb e (length s) ≡ q → (eqb e (i + 1) || (q && not (eqb y semicolon))) ≡ false
             no r true q =
@@ -70,11 +71,12 @@ module _ (b : ℕ) (h : Parts b) where
                 rw (ne-eqb e (i + 1) (λ z. omega (arith, r .more, second-is)), eq-eqb y semicolon (last ∙ sym second-byte ∙ r .ended l))
             no r false q = rw (ne-eqb e (i + 1) (λ z. omega (arith, r .more, second-is)))
 
-        pub both : (eqb i from || not (eqb x b)) ≡ false → (eqb e (i + 1) || (ltb e (length s) && not (eqb y semicolon))) ≡ false → e ≡ from + pairLength b (drop from s)
-        both t v = second-is ∙ ap (λ (n : ℕ). from + n) (sym (pair-made b h (drop from s) seen))
+        pub pair-found : (eqb i from || not (eqb x b)) ≡ false → (eqb e (i + 1) || (ltb e (length s) && not (eqb y semicolon))) ≡ false → e ≡ from + pairLength b (drop from s)
+        pair-found t v = second-is ∙ ap (λ (n : ℕ). from + n) (sym (pair-made b h (drop from s) seen))
           where
             ends : ltb e (length s) ≡ true → not (eqb y semicolon) ≡ false
             ends q = ap (λ (z : Bool). z && not (eqb y semicolon)) (sym q) ∙ or-false-right (eqb e (i + 1)) _ v
+
             seen : PairRead b (drop from s)
             seen = record {
               some = omega (arith, eqb-false i from (or-false-left (eqb i from) _ t));
@@ -98,12 +100,12 @@ all-headed (t ∷ ps) n = refl
 
 -- a walk over them has come to i, and the pair from there on ends at e
 module _ (b : ℕ) (h : Parts b) (s : List ℕ) (i e : ℕ) (in-s : i ≤ length s) (here : e ≡ i + pairLength b (drop i s)) where
-  first-pair : (q : Bool) → tokenPair b (take (indexOf semicolon (drop i s)) (drop i s)) ≡ q → e ≡ i + cond q (indexOf semicolon (drop i s)) 0
+  first-pair : (q : Bool) → tokenPair b (stretch (drop i s)) ≡ q → e ≡ i + cond q (indexOf semicolon (drop i s)) 0
   unfolding pairLength
   first-pair q t = here ∙ rw t
 
   -- the stretch is the last one
-  whole-rest : indexOf semicolon (drop i s) ≡ length (drop i s) → take (indexOf semicolon (drop i s)) (drop i s) ≡ drop i s
+  whole-rest : indexOf semicolon (drop i s) ≡ length (drop i s) → stretch (drop i s) ≡ drop i s
   whole-rest m = rw (m) (take-length (drop i s))
 
   pub stretches-not : e ≡ i → headed b (split semicolon (drop i s)) ≡ false
@@ -112,17 +114,18 @@ module _ (b : ℕ) (h : Parts b) (s : List ℕ) (i e : ℕ) (in-s : i ≤ length
       (λ l. rw (split-more semicolon (drop i s) l, no-pair))
       (eq-or-lt-of-le (index-le semicolon (drop i s)))
     where
-      go : (q : Bool) → tokenPair b (take (indexOf semicolon (drop i s)) (drop i s)) ≡ q → q ≡ false
+      go : (q : Bool) → tokenPair b (stretch (drop i s)) ≡ q → q ≡ false
       go true t = absurd (omega (arith, here, z, pair-made b h (drop i s) (pair-read b h (drop i s) t)))
       go false t = refl
-      no-pair : tokenPair b (take (indexOf semicolon (drop i s)) (drop i s)) ≡ false
+
+      no-pair : tokenPair b (stretch (drop i s)) ≡ false
       no-pair = go _ refl
 
   module _ (n : e ≡ i → ⊥) where
-    pair-there : tokenPair b (take (indexOf semicolon (drop i s)) (drop i s)) ≡ true
-    pair-there = go (tokenPair b (take (indexOf semicolon (drop i s)) (drop i s))) refl
+    pair-there : tokenPair b (stretch (drop i s)) ≡ true
+    pair-there = go (tokenPair b (stretch (drop i s))) refl
       where
-        go : (q : Bool) → tokenPair b (take (indexOf semicolon (drop i s)) (drop i s)) ≡ q → q ≡ true
+        go : (q : Bool) → tokenPair b (stretch (drop i s)) ≡ q → q ≡ true
         go true t = refl
         go false t = absurd (n (omega (arith, first-pair false t)))
 

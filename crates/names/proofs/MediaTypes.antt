@@ -1,11 +1,10 @@
 -- Media types with parameters: which there are, and that those of document 01 stay.
 -- Assumes nothing.
-use mathlib.Core.Path.{_≡_, refl, sym, ap, subst, _∙_}
-use mathlib.Core.Bool.{Bool, true, false, _&&_, false≢true}
-use mathlib.Core.List.{List, [], _∷_, _++_, map, flatMap, append-nil, append-assoc}
-use Prim.Native.Nat.{ℕ, _+_, _≤_, _<_}
+use mathlib.Core.Path.{_≡_, refl, ap, subst, _∙_}
+use mathlib.Core.Bool.{true, false≢true}
+use mathlib.Core.List.{List, [], _∷_, _++_, map, flatMap, append-nil}
+use Prim.Native.Nat.{ℕ, _+_, _≤_}
 use native.Mathlib.Omega.{arith}
-use lib.Dec.{eqb, leb}
 use lib.ListN.{length, take, drop, length-append}
 use borrow.Author.Tests.{eqb-true, le-leb}
 use Rattle.chars.specs.Bytes.{slash, semicolon, equalsSign, within}
@@ -13,7 +12,7 @@ use Rattle.chars.specs.Lists.{every, indexOf, lacks, split, all}
 use Rattle.base.proofs.Bools.{and-left, and-right, and-true, and-right-true}
 use Rattle.chars.proofs.Splits.{split-last, split-whole, split-append, rejoin, rejoin-split}
 use Rattle.chars.proofs.UnitBytes.{but}
-use Rattle.names.specs.Types.{token, tokenPair, typeAndParameters, mediaType}
+use Rattle.names.specs.Types.{tokenPair, typeAndParameters, mediaType}
 use Rattle.names.specs.Reading.{Parts}
 use Rattle.names.specs.Demand.{plainType, PlainTypesStay, EarlierTypesStay, Two, parted, followed, Followed, EveryMediaType}
 use Rattle.names.proofs.Lengths.{media-type-size}
@@ -34,6 +33,7 @@ earlier-types-stay s e = one-stretch s (split-whole semicolon s none) ∙ e
   where
     pair : tokenPair slash s ≡ true
     pair = and-right (within 3 127 (length s)) (tokenPair slash s) e
+
     none : every (but semicolon) s ≡ true
     none = ap (every (but semicolon)) (pair-is slash s pair)
         ∙ pair-lacks slash slash-parts _ _ (first-of slash s pair) (second-of slash s pair)
@@ -60,8 +60,13 @@ followed-some t ps =
 followed-type : (t : Two) (ps : List Two) → length (followed t ps) ≤ 127 → mediaType (followed t ps) ≡ true
 unfolding mediaType
 followed-type t ps l =
-    rw (le-leb 3 (length (followed t ps)) (followed-some t ps), le-leb (length (followed t ps)) 127 l, split-followed slash slash-parts t ps,
-    pair-of slash slash-parts (t .left) (t .right) (t .leftToken) (t .rightToken), all-pairs ps)
+    rw (
+      le-leb 3 (length (followed t ps)) (followed-some t ps),
+      le-leb (length (followed t ps)) 127 l,
+      split-followed slash slash-parts t ps,
+      pair-of slash slash-parts (t .left) (t .right) (t .leftToken) (t .rightToken),
+      all-pairs ps,
+    )
 
 -- and such a cut is written out again
 abbrev two-of : (b : ℕ) (s : List ℕ) → tokenPair b s ≡ true → Two

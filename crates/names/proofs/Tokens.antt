@@ -1,24 +1,24 @@
 -- Tokens, and two of them with a byte between them: made, and read byte by byte.
 -- Assumes nothing.
 use mathlib.Core.Path.{_≡_, refl, sym, ap, subst, _∙_}
-use mathlib.Core.Bool.{Bool, true, false, not, _&&_, _||_, cond, false≢true}
-use mathlib.Core.List.{List, [], _∷_, _++_, append-assoc}
-use Prim.Native.Nat.{ℕ, suc, _+_, _-_, _≤_, _<_}
+use mathlib.Core.Bool.{true, false, not}
+use mathlib.Core.List.{List, _∷_, _++_, append-assoc}
+use Prim.Native.Nat.{ℕ, _+_, _≤_, _<_}
 use native.Mathlib.Omega.{arith}
-use lib.Dec.{eqb, ltb}
+use lib.Dec.{eqb}
 use lib.ListN.{length, take, drop, getD, length-append, length-drop, take-append-drop}
-use lib.Seq.{length-take-le, split-at, take-append-seam, drop-append-add, drop-drop, getD-append-seam, getD-drop}
-use borrow.Author.Tests.{eqb-true, eqb-false, eq-eqb, ne-eqb, not-true}
+use lib.Seq.{length-take-le, take-append-seam, drop-append-add, getD-append-seam, getD-drop}
+use borrow.Author.Tests.{eqb-false, eq-eqb, ne-eqb, not-true}
 use Rattle.chars.specs.Bytes.{slash, semicolon, equalsSign, letter, digit, member}
 use Rattle.chars.specs.Lists.{every, indexOf, firstNot}
 use Rattle.chars.specs.declared.search.Alphabet.the-variants.{Token}
 use Rattle.base.proofs.Bools.{and-left, and-right, and-true}
 use Rattle.base.proofs.Lists.{getD-seam, getD-rest}
-use Rattle.chars.proofs.Searches.{drop-next, first-le, index-le, index-append, every-append, every-imp}
+use Rattle.chars.proofs.Searches.{drop-next, first-le, index-append, every-append, every-imp}
 use Rattle.chars.proofs.FirstBytes.{at-index, first-append, first-not-append, every-before}
 use Rattle.chars.proofs.UnitBytes.{but, class-but}
 use Rattle.names.specs.Types.{token, tokenPair}
-use Rattle.names.specs.Reading.{Parts, pairLength}
+use Rattle.names.specs.Reading.{Parts, stretch, pairLength}
 
 pub token-some : (s : List ℕ) → token s ≡ true → 0 < length s
 unfolding token
@@ -74,6 +74,10 @@ pub record PairRead (b : ℕ) (u : List ℕ) : Type 0 where
   pub more : firstEnd u + 1 < secondEnd u
   pub ended : secondEnd u < length u → getD u (secondEnd u) 0 ≡ semicolon
 
+-- u cut before and behind its byte k, and j bytes later
+pieces : (u : List ℕ) (k j : ℕ) → k < length u → take k u ++ getD u k 0 ∷ (take j (drop (k + 1) u) ++ drop j (drop (k + 1) u)) ≡ u
+pieces u k j l = rw (take-append-drop j (drop (k + 1) u), ← drop-next u k l) (take-append-drop k u)
+
 module _ (b : ℕ) (h : Parts b) where
   -- put together
   pub pair-of : (x y : List ℕ) → token x ≡ true → token y ≡ true → tokenPair b (x ++ b ∷ y) ≡ true
@@ -124,7 +128,7 @@ module _ (b : ℕ) (h : Parts b) where
         rw (a, stretch-ends, take-append-seam (x ++ b ∷ y) z, pair-of x y e f) n
 
   -- the first stretch of u is such a pair: how u is read
-  pub pair-read : (u : List ℕ) → tokenPair b (take (indexOf semicolon u) u) ≡ true → PairRead b u
+  pub pair-read : (u : List ℕ) → tokenPair b (stretch u) ≡ true → PairRead b u
   pair-read u e =
       let m = indexOf semicolon u in
       let w = take m u in
@@ -148,10 +152,9 @@ module _ (b : ℕ) (h : Parts b) where
       let kl : k + 1 < length u = omega (arith, r .more, jl, length-drop (k + 1) u) in
       let lx : length x ≡ k = length-take-le k u (omega arith) in
       let ly : length y ≡ j = length-take-le j v jl in
-      let is : x ++ b ∷ (y ++ z) ≡ u =
-          ap (λ (l : List ℕ). x ++ b ∷ l) (take-append-drop j v) ∙ ap (λ (c : ℕ). x ++ c ∷ v) (sym (r .parted)) ∙ ap (λ (l : List ℕ). x ++ l) (sym (drop-next u k (omega arith))) ∙ take-append-drop k u in
-      let g : 0 < length z → getD z 0 0 ≡ semicolon =
-          λ l. getD-rest j v ∙ getD-drop (k + 1) u j 0 ∙ r .ended (omega (arith, l, length-drop j v, length-drop (k + 1) u)) in
+      let is : x ++ b ∷ (y ++ z) ≡ u = ap (λ (c : ℕ). x ++ c ∷ (y ++ z)) (sym (r .parted)) ∙ pieces u k j (omega arith) in
+      let next : getD z 0 0 ≡ getD u (secondEnd u) 0 = getD-rest j v ∙ getD-drop (k + 1) u j 0 in
+      let g : 0 < length z → getD z 0 0 ≡ semicolon = λ l. next ∙ r .ended (omega (arith, l, length-drop j v, length-drop (k + 1) u)) in
       let ex : token x ≡ true = token-of x (omega (arith, r .some)) (every-before (member Token) u) in
       let ey : token y ≡ true = token-of y (omega (arith, r .more)) (every-before (member Token) v) in
       ap (pairLength b) (sym is) ∙ length-of x y z ex ey g ∙ rw (lx, ly)

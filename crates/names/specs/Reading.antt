@@ -2,7 +2,7 @@
 -- Assumes nothing.
 use Prim.Native.Nat.{ℕ}
 use mathlib.Core.Path.{_≡_}
-use mathlib.Core.Bool.{Bool, false, _&&_, cond}
+use mathlib.Core.Bool.{false, _&&_, cond}
 use mathlib.Core.List.{List}
 use lib.Dec.{leb, eqb}
 use lib.ListN.{take}
@@ -16,11 +16,15 @@ use Rattle.names.specs.Types.{tokenPair}
 unfoldable pub readNumber : ℕ → List ℕ → ℕ
 readNumber v s = cond (every digit s && leb (value v s) 9999) (value v s) 10000
 
--- b can stand between two tokens: no token holds it, and no stretch is cut at it
+-- b can stand between two tokens of a stretch: no token holds it, and it is no semicolon
 pub record Parts (b : ℕ) : Type 0 where
   pub noToken : member Token b ≡ false
   pub noSemicolon : eqb b semicolon ≡ false
 
--- the length of the first stretch between semicolons, if it is a token, the byte b, a token; else 0
+-- what stands before the first semicolon; all of s if there is none
+abbrev pub stretch : List ℕ → List ℕ
+stretch s = take (indexOf semicolon s) s
+
+-- its length, if it is a token, the byte b, a token; else 0
 unfoldable pub pairLength : ℕ → List ℕ → ℕ
-pairLength b s = cond (tokenPair b (take (indexOf semicolon s) s)) (indexOf semicolon s) 0
+pairLength b s = cond (tokenPair b (stretch s)) (indexOf semicolon s) 0

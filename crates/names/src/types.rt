@@ -17,7 +17,7 @@ ghost use Rattle.chars.specs.Lists.{split};
 ghost use Rattle.names.specs.Types.{typeAndParameters, mediaType, extension, identifier};
 ghost use Rattle.names.specs.Reading.{Parts, pairLength};
 
-// Where a token, the byte b and a token end that start at `from`, and with them a stretch between semicolons; `from` if they don't.
+// A token, the byte b and a token, from index `from` up to a semicolon or the end: where they end, or `from` if they don't stand there.
 fn pair_end(t: &[u8; 256], s: &[u8], from: usize, b: u8) -> usize
     requires { ⌜ (now t ≡ classes) × Parts b ⌝ }
     ensures { λ r. ⌜ r ≡ from + pairLength b (drop from (now (s .entry))) ⌝ }

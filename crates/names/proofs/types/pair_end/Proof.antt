@@ -1,7 +1,7 @@
 use mathlib.Core.Path.{refl}
 use native.Mathlib.Omega.{arith}
 use borrow.Author.Needs.{needs}
-use Rattle.names.proofs.Media.{no-first, first-within, no-second, both}
+use Rattle.names.proofs.Media.{first-missing, first-within, second-missing, pair-found}
 use Rattle.names.proofs.types.pair_end.Statement.{statement}
 use Rattle.names.proofs.types.pair_end.Tie as tie
 
@@ -10,7 +10,7 @@ returns c =
     let at-byte-at = c .before in
     let at-past-members = at-byte-at .before in
     let start = at-past-members .before .before in
-    no-first _ (start .pre .1) _ _ _ _ (at-past-members .past-members .ensures) refl _ (at-byte-at .byte-at .ensures) (c .if1 .taken)
+    first-missing _ (start .pre .1) _ _ _ _ (at-past-members .past-members .ensures) refl _ (at-byte-at .byte-at .ensures) (c .if1 .taken)
 
 add-j : tie.Need-add-j
 add-j c =
@@ -26,7 +26,7 @@ returns-2 c =
     let at-byte-at = at-past-members2 .before .before in
     let at-past-members = at-byte-at .before in
     let start = at-past-members .before .before in
-    no-second _ (start .pre .1) _ _ _ _ (at-past-members .past-members .ensures) (at-past-members2 .past-members2 .ensures) _
+    second-missing _ (start .pre .1) _ _ _ _ (at-past-members .past-members .ensures) (at-past-members2 .past-members2 .ensures) _
     (at-byte-at .byte-at .ensures) _ (at-byte-at2 .byte-at2 .ensures) (c .if2 .taken)
 
 returns-3 : tie.Need-returns-3
@@ -37,7 +37,7 @@ returns-3 c =
     let at-byte-at = at-if1 .before in
     let at-past-members = at-byte-at .before in
     let start = at-past-members .before .before in
-    both _ (start .pre .1) _ _ _ _ (at-past-members .past-members .ensures) (at-past-members2 .past-members2 .ensures) _
+    pair-found _ (start .pre .1) _ _ _ _ (at-past-members .past-members .ensures) (at-past-members2 .past-members2 .ensures) _
     (at-byte-at .byte-at .ensures) _ (at-byte-at2 .byte-at2 .ensures) (at-if1 .if1 .left) (c .if2 .left)
 
 pub pair-end-spec : {M : Type 1} → statement M
