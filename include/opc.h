@@ -83,6 +83,8 @@ typedef struct opc_reply {
 /* JUDGEMENTS on any bytes. None is refused. */
 bool opc_is_part_name(const uint8_t *name, size_t name_length);
 bool opc_is_reserved(const uint8_t *name, size_t name_length); /* of a part name */
+/* A media type, 3 to 127 bytes: token/token, then any number of parameters, each `;`, a token, `=`, a token, without spaces, as in
+   `image/tiff;page=2`. */
 bool opc_is_media_type(const uint8_t *text, size_t text_length);
 bool opc_is_extension(const uint8_t *text, size_t text_length);
 bool opc_is_id(const uint8_t *text, size_t text_length);
@@ -170,7 +172,7 @@ opc_reply opc_part_at(const uint8_t *package, size_t package_length, uint64_t po
    Refusals: no others. */
 opc_reply opc_totals(const uint8_t *package, size_t package_length);
 
-/* The media type of an extension.
+/* The media type of an extension. It may have parameters and is kept as given.
    Refusals: 7 for either field; to put 10, 15; to drop 13. */
 opc_reply opc_put_default(uint8_t *package, size_t package_length, const uint8_t *extension, size_t extension_length,
                           const uint8_t *media_type, size_t media_type_length);

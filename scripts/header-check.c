@@ -113,6 +113,8 @@ int main(void)
     CHECK(!opc_is_reserved(TEXT("/_rels/x.rels.xml")));
     CHECK(opc_is_media_type(TEXT("image/tiff")));
     CHECK(!opc_is_media_type(TEXT("image")));
+    CHECK(opc_is_media_type(TEXT("image/tiff;page=2")));
+    CHECK(!opc_is_media_type(TEXT("image/tiff; page=2")));
     CHECK(opc_is_extension(TEXT("tiff")));
     CHECK(!opc_is_extension(TEXT("a.b")));
     CHECK(opc_is_id(TEXT("r1")));
@@ -168,13 +170,14 @@ int main(void)
     CHECK(opc_media_type(package, sizeof package, TEXT("/t3.tif"), out, sizeof out).number == OPC_NO_MEDIA_TYPE);
     CHECK(is(opc_put_default(package, sizeof package, TEXT("TIF"), TEXT("image/tiff")), 0, 1, 0, 0, 0));
     CHECK(wrote(opc_media_type(package, sizeof package, TEXT("/t3.tif"), out, sizeof out), out, "image/tiff"));
-    CHECK(is(opc_put_override(package, sizeof package, TEXT("/T3.TIF"), TEXT("a/b")), 0, 1, 0, 0, 0));
-    CHECK(wrote(opc_media_type(package, sizeof package, TEXT("/t3.tif"), out, sizeof out), out, "a/b"));
+    CHECK(is(opc_put_override(package, sizeof package, TEXT("/T3.TIF"), TEXT("a/b;")), OPC_BAD_TYPE, 1, 0, 0, 0));
+    CHECK(is(opc_put_override(package, sizeof package, TEXT("/T3.TIF"), TEXT("a/b;c=&")), 0, 1, 0, 0, 0));
+    CHECK(wrote(opc_media_type(package, sizeof package, TEXT("/t3.tif"), out, sizeof out), out, "a/b;c=&"));
     CHECK(wrote(opc_write_types(package, sizeof package, out, sizeof out), out,
                 "<?xml version=\"1.0\" encoding=\"UTF-8\"?>\n"
                 "<Types xmlns=\"http://schemas.openxmlformats.org/package/2006/content-types\">\n"
                 "<Default Extension=\"TIF\" ContentType=\"image/tiff\"/>\n"
-                "<Override PartName=\"/T3.TIF\" ContentType=\"a/b\"/>\n"
+                "<Override PartName=\"/T3.TIF\" ContentType=\"a/b;c=&amp;\"/>\n"
                 "</Types>\n"));
     CHECK(is(opc_drop_override(package, sizeof package, TEXT("/t3.tif")), 0, 1, 0, 0, 0));
 

@@ -39,6 +39,17 @@ fn typical_media_types() -> Vec<Vec<u8>> {
     (0..200).map(|i| types[i % types.len()].into()).collect()
 }
 
+/// 200 media types with one to three parameters.
+fn typical_parameters() -> Vec<Vec<u8>> {
+    let media_type = |i: usize| match i % 4 {
+        0 => format!("image/tiff;page={i}"),
+        1 => "text/xml;charset=utf-8".to_string(),
+        2 => format!("image/tiff;page={};level={}", i % 90, i % 5),
+        _ => format!("application/vnd.example.tile+xml;version=1.0;row={i};column=44"),
+    };
+    (0..200).map(|i| media_type(i).into_bytes()).collect()
+}
+
 fn typical_iris() -> Vec<Vec<u8>> {
     let iri = |i: usize| match i % 4 {
         0 => format!("http://slides.example.org/2026/ovary-17?level={i}#tile"),
@@ -135,5 +146,11 @@ fn main() {
         &parts,
         |a, b| names::compare_folded(a, b) as usize,
         |a, b| ref_names::compare_folded(a, b) as usize,
+    );
+    compare(
+        "is_media_type, parameters",
+        &typical_parameters(),
+        |a, _| usize::from(names::is_media_type(a)),
+        |a, _| usize::from(ref_names::is_media_type(a)),
     );
 }

@@ -21,6 +21,8 @@ const DEFAULTS: &[[&str; 2]] = &[
     ["it's", "x/it's"],
     ["\u{e9}", "x/!#$&'*+-.^_`|~"],
     ["%22%3C", "x/1"],
+    ["tif", "image/tiff;page=2"],
+    ["lt", "x/&lt;&#38=&lt;&amp='"],
     [
         "Rels",
         "application/vnd.openxmlformats-package.relationships+xml",
@@ -35,6 +37,7 @@ const OVERRIDES: &[[&str; 2]] = &[
     ["/slide/it's='x'", "x/'"],
     ["/slide/\u{20ac}\u{10000}.tif", "image/tiff"],
     ["/slide/%20%3E", "x/2"],
+    ["/slide/&gt", "x/y;a=&;&=b;c=&amp"],
 ];
 
 /// Sources, ids, types, targets and modes.

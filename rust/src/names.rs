@@ -115,7 +115,17 @@ pub fn take_apart(name: &[u8]) -> Result<ItemName<'_>, Refusal> {
     Ok(ItemName { prefix, piece })
 }
 
-/// Whether `text` is a media type: token/token, 3 to 127 bytes.
+/// Whether `text` is a media type: token/token, and behind it any number of
+/// parameters, each `;`, a token, `=`, a token; 3 to 127 bytes in all. A token
+/// is one or more letters, digits and ``!#$%&'*+-.^_`|~``, so that there are no
+/// spaces and no quoted values.
+///
+/// ```
+/// use zombirels::names::is_media_type;
+/// assert!(is_media_type(b"image/tiff"));
+/// assert!(is_media_type(b"image/tiff;page=2"));
+/// assert!(!is_media_type(b"image/tiff; page=2"));
+/// ```
 #[must_use]
 pub fn is_media_type(text: &[u8]) -> bool {
     ask(ffi::opc_is_media_type, text)

@@ -7,8 +7,9 @@
 //! given and looked up without regard to the case of ASCII letters.
 //!
 //! A part's media type is that of its *Override*, by name, else that of the
-//! *Default* of its extension. A *relationship* leads from a source, a part or
-//! the package itself (`/`), to a target.
+//! *Default* of its extension. It may have parameters (`image/tiff;page=2`) and
+//! is kept as given. A *relationship* leads from a source, a part or the
+//! package itself (`/`), to a target.
 //!
 //! The package lies in the caller's bytes and nowhere else: they may be
 //! stored, mapped or sent, and opened again with [`Package::open`], or with

@@ -2,7 +2,7 @@
 
 mod support;
 
-use support::numbers;
+use support::{numbers, show};
 use zombirels::package::{Package, CAPACITY_MAX, OVERHEAD};
 
 /// The example of the paper, and refused starts.
@@ -41,6 +41,69 @@ fn examples() {
     assert_eq!(&out[..4], b"bcde");
     assert_eq!(package.part_at(2, &mut out), Ok(2));
     assert_eq!(&out[..2], b"/B");
+}
+
+/// The longest media type: 3 bytes and 31 parameters of 4 bytes.
+fn longest_type() -> Vec<u8> {
+    [&b"A/b"[..], &b";C=&".repeat(31)].concat()
+}
+
+/// Types with parameters come back as given, in a stream with `&amp;`, and are
+/// charged with all of their bytes.
+#[test]
+fn types_with_parameters() {
+    let (camera, longest) = (b"image/tiff;page=2", longest_type());
+    let capacity = (4 + 1) + (1 + 17) + (2 + 127);
+    let mut buffer = vec![0; capacity + OVERHEAD];
+    let mut package = Package::start(&mut buffer, capacity as u64).expect("room");
+    package.put_item(b"/a.t", b"x").expect("room");
+    package.put_default(b"t", camera).expect("room");
+    let mut out = [7; 600];
+    assert_eq!(package.media_type(b"/A.T", &mut out), Ok(17));
+    assert_eq!(&out[..18], b"image/tiff;page=2\x07");
+    package.put_override(b"/b", &longest).expect("room");
+    assert_eq!(package.totals().expect("a package").charge, capacity);
+    let full = package.put_override(b"/c", b"a/b").map_err(numbers);
+    assert_eq!(full, Err((15, 0)));
+
+    let length = package.write_types(&mut out).expect("room");
+    let stream = String::from_utf8_lossy(&out[..length]);
+    let lines: Vec<&str> = stream.lines().skip(2).collect();
+    let escaped = format!("A/b{}", ";C=&amp;".repeat(31));
+    let expected = [
+        r#"<Default Extension="t" ContentType="image/tiff;page=2"/>"#,
+        &format!(r#"<Override PartName="/b" ContentType="{escaped}"/>"#),
+        "</Types>",
+    ];
+    assert_eq!(lines, expected);
+}
+
+/// Other types are refused, and every byte stays as it was.
+#[test]
+fn types_with_odd_parameters() {
+    let mut buffer = vec![0; 1000 + OVERHEAD];
+    let mut package = Package::start(&mut buffer, 1000).expect("room");
+    package.put_override(b"/a", b"a/b;c=d").expect("room");
+    let before = package.as_bytes().to_vec();
+    let too_long = [&longest_type()[..], b"x"].concat();
+    let odd: [&[u8]; 8] = [
+        b"a/b;",
+        b"a/b;;c=d",
+        b"a/b;c",
+        b"a/b;c=d=e",
+        b"a/b; c=d",
+        b"a/b;c=\"d\"",
+        b"a;c=d/b",
+        &too_long,
+    ];
+    for media_type in odd {
+        let put = package.put_default(b"t", media_type).map_err(numbers);
+        assert_eq!(put, Err((7, 0)), "{}", show(media_type));
+        // before what is held is looked at
+        let put = package.put_override(b"/a", media_type).map_err(numbers);
+        assert_eq!(put, Err((7, 0)), "{}", show(media_type));
+        assert!(package.as_bytes() == before, "{}", show(media_type));
+    }
 }
 
 /// Messages show a package by its length.

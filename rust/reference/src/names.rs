@@ -259,12 +259,22 @@ fn read_piece_number(digits: &[u8]) -> Option<u16> {
     }
 }
 
-/// Whether `text` is token/token in 3 to 127 bytes.
+/// Whether `text` is a media type, 3 to 127 bytes: token/token, then any number
+/// of parameters, each `;`, a token, `=`, a token.
 pub fn is_media_type(text: &[u8]) -> bool {
-    let Some(slash) = text.iter().position(|&byte| byte == b'/') else {
-        return false;
-    };
-    text.len() <= 127 && is_token(&text[..slash]) && is_token(&text[slash + 1..])
+    let mut stretches = text.split(|&byte| byte == b';');
+    let kind = stretches.next().unwrap_or_default();
+    text.len() <= 127
+        && are_two_tokens(kind, b'/')
+        && stretches.all(|parameter| are_two_tokens(parameter, b'='))
+}
+
+/// Whether `text` is a token, `mark`, a token.
+fn are_two_tokens(text: &[u8], mark: u8) -> bool {
+    match text.iter().position(|&byte| byte == mark) {
+        Some(at) => is_token(&text[..at]) && is_token(&text[at + 1..]),
+        None => false,
+    }
 }
 
 fn is_token(text: &[u8]) -> bool {

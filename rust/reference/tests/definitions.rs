@@ -194,7 +194,7 @@ const SUFFIXES: &[&str] = &[
     "/[2].last.piece",
 ];
 const CONTENTS: &[&str] = &["", "x", "abc", "0123456789"];
-const TYPES: &[&str] = &["a/b", "text/xml"];
+const TYPES: &[&str] = &["a/b", "text/xml", "a/b;c=d"];
 const EXTENSIONS: &[&str] = &["x", "X", "y"];
 
 /// One random call on both sides.

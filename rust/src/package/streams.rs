@@ -5,8 +5,9 @@ use crate::Refusal;
 
 impl Package<'_> {
     /// Writes the Media Types stream, the Defaults and then the Overrides in
-    /// folded order, and answers its length. If `out` is too short, the
-    /// refusal carries the length that is needed.
+    /// folded order, and answers its length. Values stand as they were given,
+    /// `&` as `&amp;`. If `out` is too short, the refusal carries the length
+    /// that is needed.
     ///
     /// # Errors
     ///
@@ -20,7 +21,7 @@ impl Package<'_> {
     /// let mut buffer = vec![0; 100 + OVERHEAD];
     /// let mut slide = Package::start(&mut buffer, 100)?;
     /// slide.put_override(b"/R&D.xml", b"text/xml")?;
-    /// slide.put_default(b"tiff", b"image/tiff")?;
+    /// slide.put_default(b"tiff", b"image/tiff;page=2")?;
     /// let Err(Refusal::OutputTooShort { needed }) = slide.write_types(&mut []) else {
     ///     panic!("no output");
     /// };
@@ -28,7 +29,7 @@ impl Package<'_> {
     /// assert_eq!(slide.write_types(&mut out)?, needed);
     /// let lines: Vec<&str> = std::str::from_utf8(&out).unwrap().lines().collect();
     /// assert_eq!(lines[0], r#"<?xml version="1.0" encoding="UTF-8"?>"#);
-    /// assert_eq!(lines[2], r#"<Default Extension="tiff" ContentType="image/tiff"/>"#);
+    /// assert_eq!(lines[2], r#"<Default Extension="tiff" ContentType="image/tiff;page=2"/>"#);
     /// assert_eq!(lines[3], r#"<Override PartName="/R&amp;D.xml" ContentType="text/xml"/>"#);
     /// assert_eq!(lines[4], "</Types>");
     /// # Ok::<(), Refusal>(())

@@ -7,7 +7,8 @@ use crate::Refusal;
 
 impl Package<'_> {
     /// Holds a Default: the media type of parts whose names have that
-    /// extension and no Override.
+    /// extension and no Override. The type may have parameters, see
+    /// [`is_media_type`](crate::names::is_media_type).
     ///
     /// # Errors
     ///
@@ -23,6 +24,7 @@ impl Package<'_> {
     /// slide.put_default(b"tiff", b"image/tiff")?;
     /// assert_eq!(slide.put_default(b"TIFF", b"image/x"), Err(Refusal::Taken));
     /// assert_eq!(slide.put_default(b"xml", b"xml"), Err(Refusal::BadType));
+    /// assert_eq!(slide.put_default(b"xml", b"a/b;c"), Err(Refusal::BadType));
     /// assert_eq!(slide.totals()?.charge, 14);
     /// # Ok::<(), Refusal>(())
     /// ```
@@ -105,8 +107,8 @@ impl Package<'_> {
     }
 
     /// Copies the media type of a part, its Override's or else that of the
-    /// Default of its extension, and answers its length. 127 bytes always
-    /// suffice.
+    /// Default of its extension, as it was given, and answers its length. 127
+    /// bytes always suffice.
     ///
     /// # Errors
     ///
@@ -126,9 +128,9 @@ impl Package<'_> {
     /// slide.put_default(b"TIFF", b"image/tiff")?;
     /// let length = slide.media_type(b"/t3.tiff", &mut out)?;
     /// assert_eq!(&out[..length], b"image/tiff");
-    /// slide.put_override(b"/T3.tiff", b"image/x-tile")?;
+    /// slide.put_override(b"/T3.tiff", b"image/tiff;page=2")?;
     /// let length = slide.media_type(b"/t3.tiff", &mut out)?;
-    /// assert_eq!(&out[..length], b"image/x-tile");
+    /// assert_eq!(&out[..length], b"image/tiff;page=2");
     /// # Ok::<(), Refusal>(())
     /// ```
     pub fn media_type(&self, name: &[u8], out: &mut [u8]) -> Result<usize, Refusal> {

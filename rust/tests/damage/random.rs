@@ -1,6 +1,7 @@
 //! Random calls on a package.
 
 use crate::support::calls::Call;
+use crate::support::types::near_media_type;
 use crate::support::Random;
 use zombirels::script::Code;
 
@@ -12,7 +13,6 @@ const NAMES: &[&[u8]] = &[
 ];
 
 const EXTENSIONS: &[&[u8]] = &[b"tiff", b"TIFF", b"xml", b"e", b"a.b", b""];
-const MEDIA_TYPES: &[&[u8]] = &[b"a/b", b"image/tiff", b"application/octet-stream", b"a"];
 const IDS: &[&[u8]] = &[b"r1", b"R1", b"_", b"1"];
 const KINDS: &[&[u8]] = &[b"a:", b"http://example.com/mask", b"a"];
 const TARGETS: &[&[u8]] = &[b"b", b"../c.tiff", b"/a", b"_rels/.rels", b"a:b#c", b""];
@@ -37,10 +37,10 @@ pub fn name(random: &mut Random) -> Vec<u8> {
 
 /// Puts a Default, an Override or a relationship.
 pub fn put_field(random: &mut Random) -> Call {
-    let (name, media_type) = (name(random), random.pick(MEDIA_TYPES));
+    let (name, media_type) = (name(random), near_media_type(random));
     match random.below(3) {
-        0 => Call::new(Code::PutDefault, &[random.pick(EXTENSIONS), media_type]),
-        1 => Call::new(Code::PutOverride, &[&name, media_type]),
+        0 => Call::new(Code::PutDefault, &[random.pick(EXTENSIONS), &media_type]),
+        1 => Call::new(Code::PutOverride, &[&name, &media_type]),
         _ => {
             let (source, id) = (source(random), random.pick(IDS));
             let (kind, target) = (random.pick(KINDS), random.pick(TARGETS));

@@ -2,10 +2,11 @@
 
 use crate::list::{List, Style};
 use crate::support::calls::Call;
+use crate::support::types::{long_media_type, near_media_type};
 use crate::support::Random;
 use crate::texts::{
-    field, filled, random_length, BASES, EXTENSIONS, IDS, KINDS, MEDIA_TYPES, ODD_EXTENSIONS,
-    ODD_IDS, ODD_KINDS, ODD_MEDIA_TYPES, ODD_MODES, RESERVED, TARGETS,
+    field, filled, random_length, BASES, EXTENSIONS, IDS, KINDS, ODD_EXTENSIONS, ODD_IDS,
+    ODD_KINDS, ODD_MODES, RESERVED, TARGETS,
 };
 use zombirels::script::Code;
 
@@ -33,9 +34,10 @@ impl List {
 
     fn media_type(&self, random: &mut Random, room: usize) -> Vec<u8> {
         if random.once_in(10) {
-            return filled(b"a/b", b'x', self.fitting(random, room, 3, 127));
+            let length = self.fitting(random, room, 3, 127);
+            return long_media_type(random, length);
         }
-        field(random, MEDIA_TYPES, ODD_MEDIA_TYPES)
+        near_media_type(random)
     }
 
     fn override_name(&self, random: &mut Random) -> Vec<u8> {

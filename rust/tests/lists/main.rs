@@ -30,6 +30,17 @@ const LISTS: usize = 3000;
 /// a number. The rarest one comes about once in 20 lists.
 const COVERED: usize = 1000;
 
+/// What lists of each kind must show of types with parameters: put, refused
+/// and written again.
+const PARAMETERS: [(Code, u64); 6] = [
+    (Code::PutDefault, 0),
+    (Code::PutDefault, 7),
+    (Code::PutOverride, 0),
+    (Code::PutOverride, 7),
+    (Code::MediaType, 0),
+    (Code::WriteTypes, 0),
+];
+
 /// Runs one list of 50 to 400 calls on a buffer of just the right length, or
 /// a longer one, and then starts anew at the limits.
 fn run_list(random: &mut Random, style: Style, seen: &mut Seen) -> usize {
@@ -88,8 +99,9 @@ fn run_lists(style: Style, expected: &[(Code, &[u64])], resolved: &[(usize, usiz
     for _ in 0..lists {
         calls += run_list(&mut random, style, &mut seen);
     }
-    let numbers = &seen.numbers;
+    let (numbers, parameters) = (&seen.numbers, &seen.parameters);
     println!("{test}: {lists} lists, {calls} calls compared; by call and number: {numbers:?}");
+    println!("{test}: with parameters: {parameters:?}");
     if lists < COVERED {
         return;
     }
@@ -98,6 +110,10 @@ fn run_lists(style: Style, expected: &[(Code, &[u64])], resolved: &[(usize, usiz
             let met = seen.numbers.contains_key(&(code, number));
             assert!(met, "{test}: {code:?} {number} never came");
         }
+    }
+    for (code, number) in PARAMETERS {
+        let met = seen.parameters.contains_key(&(code, number));
+        assert!(met, "{test}: {code:?} {number} never came with parameters");
     }
     for answer in resolved {
         let met = seen.resolved.contains(answer);

@@ -13,17 +13,36 @@ use zombirels::script::Code;
 pub struct Seen {
     /// How often each call met each number; 0 if it was accepted.
     pub numbers: BTreeMap<(Code, u64), usize>,
+    /// The same of the calls that put or write a type with parameters.
+    pub parameters: BTreeMap<(Code, u64), usize>,
     /// The modes of resolved targets, and whether their parts were held.
     pub resolved: BTreeSet<(usize, usize)>,
 }
 
 impl Seen {
-    fn add(&mut self, code: Code, answer: Answer) {
+    fn add(&mut self, call: &Call, answer: Answer, out: &[u8]) {
+        let code = call.code;
         let number = answer.err().map_or(0, |(number, _)| number);
         *self.numbers.entry((code, number)).or_insert(0) += 1;
+        if has_parameters(call, answer, out) {
+            *self.parameters.entry((code, number)).or_insert(0) += 1;
+        }
         if let (Code::ResolveRelationship, Ok([_, mode, held])) = (code, answer) {
             self.resolved.insert((mode, held));
         }
+    }
+}
+
+/// Whether a call puts a media type with parameters, or wrote one; to a stream
+/// one with a value that begins with `&`.
+fn has_parameters(call: &Call, answer: Answer, out: &[u8]) -> bool {
+    match (call.code, answer) {
+        (Code::MediaType, Ok([length, ..])) => out[..length].contains(&b';'),
+        (Code::WriteTypes, Ok([length, ..])) => {
+            let mut windows = out[..length].windows(6);
+            windows.any(|bytes| bytes == b"=&amp;")
+        }
+        _ => call.puts_parameters(),
     }
 }
 
@@ -61,7 +80,7 @@ impl Pair<'_> {
             }
             _ => {}
         }
-        self.seen.add(call.code, answer);
+        self.seen.add(call, answer, outputs.archive());
         self.made.push(call.clone());
         answer
     }

@@ -30,16 +30,6 @@ pub const ODD_EXTENSIONS: &[&[u8]] = &[
     b"abcdefghijklmnopqrstuvwxyz-123456",
 ];
 
-#[rustfmt::skip]
-pub const MEDIA_TYPES: &[&[u8]] = &[
-    b"a/b", b"image/tiff", b"Image/TIFF", b"text/xml", b"application/vnd.example.tile+xml", b"!#$/%&'*+-.^_`|~",
-];
-
-#[rustfmt::skip]
-pub const ODD_MEDIA_TYPES: &[&[u8]] = &[
-    b"", b"/", b"a", b"a/", b"/b", b"a/b/c", b"a b/c", b"text/xml;q=1", b" a/b", b"a/b ", b"a/\xC3\xA9", b"a/(b)", b"a,b/c",
-];
-
 pub const IDS: &[&[u8]] = &[b"r1", b"R1", b"_", b"rId9", b"a.b-c_d", b"r"];
 
 #[rustfmt::skip]

@@ -24,8 +24,8 @@ fn ended(start: &[u8], unit: &[u8], length: usize) -> Vec<u8> {
 
 #[test]
 fn every_length() {
-    let starts: [&[u8]; 7] = [b"", b"/", b"a/", b"a:", b"a:/", b"_", b"/a/"];
-    let units: [&[u8]; 11] = [
+    let starts: [&[u8]; 8] = [b"", b"/", b"a/", b"a:", b"a:/", b"_", b"/a/", b"a/b;c="];
+    let units: [&[u8]; 12] = [
         b"a",
         b"/a",
         b"%20",
@@ -37,6 +37,7 @@ fn every_length() {
         b"\xF0\x9F\x94\xAC",
         b"\xC3",
         b"#",
+        b";c=d",
     ];
     let suffixes: [&[u8]; 3] = [b"", b"/[0].piece", b"/[9999].LAST.piece"];
     let mut tally = Tally::default();

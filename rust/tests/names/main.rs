@@ -3,6 +3,7 @@
 mod bytes;
 mod lengths;
 mod order;
+mod parameters;
 mod random;
 #[path = "../support/mod.rs"]
 mod support;

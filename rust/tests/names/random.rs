@@ -11,7 +11,7 @@ pub const FRAGMENTS: &[&[u8]] = &[
     b"[", b"]", b"_rels", b"_RELS", b".rels", b".Rels", b"/_rels/", b"/_rels/a.rels",
     b"\xC3\xA9", b"\xE2\x82\xAC", b"\xF0\x9F\x94\xAC", b"\xC3", b"\xA9", b"\xEF\xBF\xBE",
     b"tiles", b"r012c044.tiff", b" ", b"?", b"#", b"\\", b"\0", b"\x7F", b"text/xml",
-    b"image/tiff", b"rId1", b"http://", b"urn:",
+    b"image/tiff", b";page=2", b"rId1", b"http://", b"urn:",
 ];
 
 #[rustfmt::skip]

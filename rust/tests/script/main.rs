@@ -62,9 +62,9 @@ fn random_scripts() {
         let mut at = 0;
         // a tail may have begun with a call
         for call in &calls[..count.min(calls.len())] {
-            *seen
-                .entry((call.code, reply_at(&out[at..])[0]))
-                .or_insert(0) += 1;
+            let number = reply_at(&out[at..])[0];
+            let key = (call.code, number, call.puts_parameters());
+            *seen.entry(key).or_insert(0) += 1;
             at += call.span();
         }
         made += count;
@@ -74,17 +74,27 @@ fn random_scripts() {
     println!(
         "random scripts: {scripts} scripts, {complete} complete, {unread} with no call behind"
     );
-    println!("{made} calls made; by code and number: {seen:?}");
+    println!("{made} calls made; by code, number and parameters: {seen:?}");
     if scripts < COVERED {
         return;
     }
     assert!(complete * 4 > scripts && complete < scripts && unread > 0);
+    check_seen(&seen);
+}
+
+/// Checks that every expected number of every call came, and types with
+/// parameters that were put and such that were refused.
+fn check_seen(seen: &BTreeMap<(Code, u64, bool), usize>) {
     for (code, numbers) in EXPECTED {
-        for number in numbers.iter().chain(&[0]) {
-            assert!(
-                seen.contains_key(&(code, *number)),
-                "{code:?} {number} never came"
-            );
+        for &number in numbers.iter().chain(&[0]) {
+            let met = |parameters| seen.contains_key(&(code, number, parameters));
+            assert!(met(false) || met(true), "{code:?} {number} never came");
+        }
+    }
+    for code in [Code::PutDefault, Code::PutOverride] {
+        for number in [0, 7] {
+            let met = seen.contains_key(&(code, number, true));
+            assert!(met, "{code:?} {number} never came with parameters");
         }
     }
 }

@@ -3,6 +3,7 @@
 use crate::bytes::{output_of, reply_at};
 use crate::pair::Pair;
 use crate::support::calls::Call;
+use crate::support::types::near_media_type;
 use crate::support::Random;
 use reference::ledger::Ledger;
 use zombirels::package::{CAPACITY_MAX, OVERHEAD};
@@ -22,7 +23,6 @@ pub const ODD_NAMES: &[&[u8]] = &[b"", b"/", b"a", b"/a/", b"/_rels/.rels", b"/x
 
 pub const SOURCES: &[&[u8]] = &[b"/", b"/a", b"/b.tiff", b"/C/d.xml", b"/_rels/.rels", b"a"];
 pub const EXTENSIONS: &[&[u8]] = &[b"tiff", b"TIFF", b"xml", b"&", b"a.b", b""];
-pub const MEDIA_TYPES: &[&[u8]] = &[b"image/tiff", b"text/xml", b"a/b&c", b"a"];
 pub const IDS: &[&[u8]] = &[b"r1", b"r2", b"R1", b"1"];
 pub const KINDS: &[&[u8]] = &[b"a:mask", b"http://h/k?a&b", b"a"];
 pub const TARGETS: &[&[u8]] = &[b"b.tiff", b"/a", b"../p", b"c:d#e", b"_rels/.rels", b""];
@@ -61,7 +61,7 @@ pub fn random_call(random: &mut Random, lent: u64) -> Call {
     };
     let size = random.pick(&[0, 3, 20, 20, 200, 1500]);
     let other = random.bytes(size);
-    let (extension, media_type) = (text(random, EXTENSIONS), text(random, MEDIA_TYPES));
+    let (extension, media_type) = (text(random, EXTENSIONS), near_media_type(random));
     let (source, id) = (text(random, SOURCES), text(random, IDS));
     let (kind, target) = (text(random, KINDS), text(random, TARGETS));
     let base = text(random, BASES);

@@ -68,8 +68,7 @@ impl Corpus {
         }
         self.inputs += 1;
         for line in output.split_inclusive(|&byte| byte == b'\n') {
-            let kind = if line.len() > 4 { b"row" } else { &line[..3] };
-            *self.seen.entry(kind.to_vec()).or_default() += 1;
+            *self.seen.entry(kind(line).to_vec()).or_default() += 1;
         }
         output
     }
@@ -107,6 +106,17 @@ impl Corpus {
             assert!(printed, "{test}: {line:?} was never printed");
         }
         fs::remove_file(self.file()).expect("the input is removed");
+    }
+}
+
+/// The number that a line is, else that it is a row; with a `;` that its type
+/// has parameters.
+fn kind(line: &[u8]) -> &[u8] {
+    let last = line.rsplit(|&byte| byte == b' ').next();
+    match last {
+        _ if line.len() <= 4 => &line[..3],
+        Some(media_type) if media_type.contains(&b';') => b"row;",
+        _ => b"row",
     }
 }
 

@@ -1,6 +1,7 @@
 //! Listings: parts of pieces, their types, their order.
 
 use crate::corpus::Corpus;
+use crate::support::show;
 
 /// Every other letter in capitals.
 fn mixed_case(text: &str) -> String {
@@ -96,6 +97,56 @@ fn types() {
         ));
     }
     corpus.require(55, &["  0", "  4", "  7", " 10", "row"]);
+}
+
+/// Types with parameters, which are taken and listed as given.
+#[rustfmt::skip]
+const TAKEN: &[&[u8]] = &[
+    b"image/tiff;page=2", b"Image/TIFF;Page=2;PAGE=2", b"a/b;c=&", b"a/b;c=d;c=d;e=f", b"a/b;!#$%&'*+-.^_`|~=!#$%&'*+-.^_`|~",
+];
+/// And such that are refused.
+#[rustfmt::skip]
+const REFUSED: &[&[u8]] = &[
+    b"a/b;", b"a/b;;c=d", b"a/b;c=d;", b"a/b;c", b"a/b;=d", b"a/b;c=", b"a/b;c=d=e", b"a/b;c=d/e", b"a/b;c=\"d\"", b"a/b;c=\"\"",
+    b"a/b;\tc=d", b"a/b;c=d\r", b"a/b;c=\0", b"a/b;c=\x80", b"a/b;c=\xC3\xA9", b"a;c=d/b", b";a/b", b"a/b/c;d=e",
+];
+/// A space makes another field, and a line with three is unreadable.
+const SPACED: &[&[u8]] = &[
+    b"a/b; c=d",
+    b"a/b ;c=d",
+    b"a/b;c= d",
+    b"a/b;c=\"d e\"",
+    b"a/b;c=d ",
+];
+
+#[test]
+fn parameters() {
+    let mut corpus = Corpus::new("parameters");
+    let mut check = |media_type: &[u8], number: &[u8], listed: &[u8]| {
+        let lines: [&[u8]; 3] = [b"P /a.tif x\nP /B \nD TIF ", b"\nO /b ", b"\nL\n"];
+        let numbers: [&[u8]; 3] = [b"  0\n  0\n", b"\n", b"\n"];
+        let rows: [&[u8]; 3] = [b"   1        1 /a.tif ", b"\n   1        0 /B ", b"\n"];
+        let expected = [numbers.join(number), rows.join(listed)].concat();
+        let output = corpus.check(lines.join(media_type));
+        assert!(
+            output == expected,
+            "{}: {}",
+            show(media_type),
+            show(&output)
+        );
+    };
+    let longest = [&b"a/b"[..], &b";c=&".repeat(31)].concat();
+    for media_type in TAKEN.iter().chain(&[&longest[..]]) {
+        check(media_type, b"  0", media_type);
+    }
+    let too_long = [&longest[..], b"x"].concat();
+    for media_type in REFUSED.iter().chain(&[&too_long[..]]) {
+        check(media_type, b"  7", b"-");
+    }
+    for media_type in SPACED {
+        check(media_type, b" 16", b"-");
+    }
+    corpus.require(30, &["  0", "  7", " 16", "row", "row;"]);
 }
 
 /// Names in folded order, whatever order they came in.

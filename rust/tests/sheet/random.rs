@@ -1,6 +1,7 @@
 //! Random lines.
 
 use crate::corpus::{Corpus, Feed};
+use crate::support::types::near_media_type;
 use crate::support::{self, Random};
 use crate::LINE_MAX;
 
@@ -21,17 +22,6 @@ const SUFFIXES: &[&str] = &[
 ];
 #[rustfmt::skip]
 const EXTENSIONS: &[&str] = &["xml", "XML", "tif", "TIF", "y", "%20", "\u{e9}", "a.b", ".", "e1", "e2", "e3", "e4"];
-const TYPES: &[&str] = &[
-    "text/xml",
-    "image/tiff",
-    "a/b",
-    "A/B",
-    "a",
-    "a/",
-    "/b",
-    "a/b/c",
-    "t/a;b",
-];
 const LETTERS: &[&str] = &[
     "L", "L ", "l", "p", "Q", "", " ", "P", "X", "D", "O", "PP", "\r", "\0", "P ", "X  ", "D x",
 ];
@@ -66,15 +56,15 @@ fn random_content(random: &mut Random, most: usize) -> Vec<u8> {
 
 fn random_line(random: &mut Random, spread: usize, most: usize) -> Vec<u8> {
     let name = random_name(random, spread);
-    let media_type = random.pick(TYPES).as_bytes();
+    let media_type = near_media_type(random);
     let line = match random.below(40) {
         0..=19 => [b"P ", &name[..], b" ", &random_content(random, most)].concat(),
         20..=25 => [b"X ", &name[..]].concat(),
         26..=29 => {
             let extension = random.pick(EXTENSIONS).as_bytes();
-            [b"D ", extension, b" ", media_type].concat()
+            [b"D ", extension, b" ", &media_type].concat()
         }
-        30..=33 => [b"O ", &name[..], b" ", media_type].concat(),
+        30..=33 => [b"O ", &name[..], b" ", &media_type].concat(),
         34..=37 => b"L".to_vec(),
         38 => random.pick(LETTERS).as_bytes().to_vec(),
         _ => [random.pick(LETTERS).as_bytes(), b" ", &name].concat(),
@@ -121,6 +111,7 @@ fn random_lines() {
         inputs.min(150),
         &[
             "  0", "  4", "  5", "  6", "  7", " 10", " 11", " 12", " 13", " 15", " 16", "row",
+            "row;",
         ],
     );
 }

@@ -44,6 +44,12 @@ impl Call {
         self.code < Code::FindItem
     }
 
+    /// Whether the call puts a media type with parameters, well-formed or not.
+    pub fn puts_parameters(&self) -> bool {
+        let puts = matches!(self.code, Code::PutDefault | Code::PutOverride);
+        puts && self.texts[1].contains(&b';')
+    }
+
     pub fn show(&self) -> String {
         let texts: Vec<String> = self.texts.iter().map(|text| show(text)).collect();
         let (code, number, lent) = (self.code, self.number, self.lent);

@@ -236,6 +236,31 @@ fn media_types() {
     check_sums(&held);
 }
 
+/// Types with parameters come back as given; all of their bytes are charged.
+#[test]
+fn media_types_with_parameters() {
+    let mut held = ledger(1000);
+    let longest = format!("a/b{}", ";A=&".repeat(31));
+    for (name, media_type) in [("/B.tif", "Image/TIFF;Page=2;page=2"), ("/c", &longest)] {
+        let put = held.put_override(name.as_bytes(), media_type.as_bytes());
+        assert_eq!(put, Ok(()));
+    }
+    assert_eq!(held.put_default(b"tif", b"image/tiff;page=2"), Ok(()));
+    assert_eq!(held.totals().charge, (6 + 24) + (2 + 127) + (3 + 17));
+    for (name, expected) in [
+        ("/a.tif", "image/tiff;page=2"),
+        ("/b.tif", "Image/TIFF;Page=2;page=2"),
+        ("/c", &longest),
+    ] {
+        assert_eq!(put(&mut held, name), 0);
+        let held_type = text(|out| held.media_type(name.as_bytes(), out));
+        assert_eq!(held_type.as_deref(), Ok(expected));
+    }
+    let short = held.media_type(b"/a.tif", &mut [0; 16]);
+    assert_eq!(short, Err(Refusal::OutputTooShort(17)));
+    check_sums(&held);
+}
+
 #[test]
 fn type_refusals() {
     let mut held = ledger(1000);
@@ -245,6 +270,10 @@ fn type_refusals() {
     assert_eq!(number(held.drop_default(b"a")), 13);
     assert_eq!(number(held.put_override(b"a", b"a")), 4);
     assert_eq!(number(held.put_override(b"/a", b"a")), 7);
+    for odd in ["a/b;", "a/b;c", "a/b;c=d=e", "a/b; c=d", "a/b;c=\"d\""] {
+        assert_eq!(number(held.put_default(b"a", odd.as_bytes())), 7);
+        assert_eq!(number(held.put_override(b"/a", odd.as_bytes())), 7);
+    }
     assert_eq!(number(held.drop_override(b"/a/[0].piece")), 4);
     assert_eq!(number(held.drop_override(b"/_rels/.rels")), 13);
 }
@@ -373,10 +402,10 @@ fn writing_types() {
         Ok(format!("{start}</Types>\n"))
     );
     held.put_default(b"xml", b"text/xml").unwrap();
-    held.put_default(b"A&b", b"x/&").unwrap();
+    held.put_default(b"A&b", b"x/&;y=&;&=z").unwrap();
     held.put_override(b"/B'", b"a/b").unwrap();
     held.put_override(b"/a&", b"c/d").unwrap();
-    let expected = "<Default Extension=\"A&amp;b\" ContentType=\"x/&amp;\"/>\n\
+    let expected = "<Default Extension=\"A&amp;b\" ContentType=\"x/&amp;;y=&amp;;&amp;=z\"/>\n\
                     <Default Extension=\"xml\" ContentType=\"text/xml\"/>\n\
                     <Override PartName=\"/a&amp;\" ContentType=\"c/d\"/>\n\
                     <Override PartName=\"/B'\" ContentType=\"a/b\"/>\n</Types>\n";

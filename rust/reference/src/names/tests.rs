@@ -1,3 +1,5 @@
+mod media_types;
+
 use super::*;
 
 fn name_of(length: usize) -> Vec<u8> {
@@ -196,30 +198,6 @@ fn extensions_of_names() {
     assert_eq!(extension(b"/.xml"), Some(&b"xml"[..]));
     assert_eq!(extension(b"/_rels.a/b"), None);
     assert_eq!(extension(b"/a"), None);
-}
-
-#[test]
-fn media_types() {
-    for text in [&b"a/b"[..], b"text/xml", b"!#$%&'*+-.^_`|~/0"] {
-        assert!(is_media_type(text), "{}", text.escape_ascii());
-    }
-    for text in [
-        &b""[..],
-        b"a",
-        b"/",
-        b"a/",
-        b"/b",
-        b"a/b/c",
-        b"a/b;c=d",
-        b"a /b",
-    ] {
-        assert!(!is_media_type(text), "{}", text.escape_ascii());
-    }
-    let mut text = vec![b'a'; 127];
-    text[3] = b'/';
-    assert!(is_media_type(&text));
-    text.push(b'a');
-    assert!(!is_media_type(&text));
 }
 
 #[test]
