@@ -1,7 +1,7 @@
 -- Media types with parameters: which there are, and that those of document 01 stay.
 -- Assumes nothing.
-use mathlib.Core.Path.{_≡_, refl, ap, subst, _∙_}
-use mathlib.Core.Bool.{true, false≢true}
+use mathlib.Core.Path.{_≡_, refl, sym, ap, subst, _∙_}
+use mathlib.Core.Bool.{true, _&&_, false≢true}
 use mathlib.Core.List.{List, [], _∷_, _++_, map, flatMap, append-nil}
 use Prim.Native.Nat.{ℕ, _+_, _≤_}
 use native.Mathlib.Omega.{arith}
@@ -9,30 +9,33 @@ use lib.ListN.{length, take, drop, length-append}
 use borrow.Author.Tests.{eqb-true, le-leb}
 use Rattle.chars.specs.Bytes.{slash, semicolon, equalsSign, within}
 use Rattle.chars.specs.Lists.{every, indexOf, lacks, split, all}
-use Rattle.base.proofs.Bools.{and-left, and-right, and-true, and-right-true}
+use Rattle.base.proofs.Bools.{and-left, and-right, and-true, and-right-true, and-assoc}
 use Rattle.chars.proofs.Splits.{split-last, split-whole, split-append, rejoin, rejoin-split}
 use Rattle.chars.proofs.UnitBytes.{but}
-use Rattle.names.specs.Types.{tokenPair, typeAndParameters, mediaType}
+use Rattle.names.specs.Types.{token, tokenPair, typeAndParameters, mediaType}
 use Rattle.names.specs.Reading.{Parts}
 use Rattle.names.specs.Demand.{plainType, PlainTypesStay, EarlierTypesStay, Two, parted, followed, Followed, EveryMediaType}
 use Rattle.names.proofs.Lengths.{media-type-size}
 use Rattle.names.proofs.Tokens.{token-some, slash-parts, equals-parts, pair-of, pair-lacks, first-of, second-of, pair-is}
 
+plain-is : (s : List ℕ) → plainType s ≡ within 3 127 (length s) && tokenPair slash s
+unfolding plainType tokenPair
+plain-is s = and-assoc (within 3 127 (length s)) (token (take (indexOf slash s) s)) (token (drop (indexOf slash s + 1) s))
+
 -- one stretch is the type alone
 one-stretch : (s : List ℕ) → split semicolon s ≡ s ∷ [] → mediaType s ≡ plainType s
-unfolding mediaType plainType
-one-stretch s e = rw (e, and-right-true)
+unfolding mediaType
+one-stretch s e = rw (e, and-right-true, plain-is s)
 
 pub plain-types-stay : PlainTypesStay
 unfolding lacks
 plain-types-stay s e = one-stretch s (split-last semicolon s (eqb-true (indexOf semicolon s) (length s) e))
 
 pub earlier-types-stay : EarlierTypesStay
-unfolding plainType
 earlier-types-stay s e = one-stretch s (split-whole semicolon s none) ∙ e
   where
     pair : tokenPair slash s ≡ true
-    pair = and-right (within 3 127 (length s)) (tokenPair slash s) e
+    pair = and-right (within 3 127 (length s)) (tokenPair slash s) (sym (plain-is s) ∙ e)
 
     none : every (but semicolon) s ≡ true
     none = ap (every (but semicolon)) (pair-is slash s pair)

@@ -1,17 +1,17 @@
 -- Media types with parameters, document 02's request 1: what stays of document 01's, and which there are. `proofs/MediaTypes.antt` proves it.
 -- Assumes nothing.
-use Prim.Native.Nat.{ℕ, _≤_}
+use Prim.Native.Nat.{ℕ, _+_, _≤_}
 use mathlib.Core.Path.{_≡_}
 use mathlib.Core.Bool.{Bool, true, _&&_}
 use mathlib.Core.List.{List, _∷_, _++_, flatMap}
-use lib.ListN.{length}
+use lib.ListN.{length, take, drop}
 use Rattle.chars.specs.Bytes.{slash, semicolon, equalsSign, within}
-use Rattle.chars.specs.Lists.{lacks}
-use Rattle.names.specs.Types.{token, tokenPair, mediaType}
+use Rattle.chars.specs.Lists.{indexOf, lacks}
+use Rattle.names.specs.Types.{token, mediaType}
 
--- document 01's: "A media type is token/token, 3 to 127 bytes"
+-- document 01's: "A media type is token/token, 3 to 127 bytes" (a token holds no slash, so the first slash parts the two)
 unfoldable pub plainType : List ℕ → Bool
-plainType s = within 3 127 (length s) && tokenPair slash s
+plainType s = within 3 127 (length s) && token (take (indexOf slash s) s) && token (drop (indexOf slash s + 1) s)
 
 -- nothing without a semicolon is judged differently
 abbrev pub PlainTypesStay : Type 0
