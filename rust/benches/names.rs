@@ -2,6 +2,9 @@
 
 mod support;
 
+use reference::{iri as ref_iri, names as ref_names};
+use zombirels::{iri, names};
+
 /// How often a round goes through all names.
 const PASSES: usize = 500;
 
@@ -97,60 +100,68 @@ fn taken_by_reference(name: &[u8]) -> usize {
     })
 }
 
-fn main() {
-    use reference::{iri as ref_iri, names as ref_names};
-    use zombirels::{iri, names};
-    let (texts, types, iris) = (typical_names(), typical_media_types(), typical_iris());
-    let parts: Vec<Vec<u8>> = texts
-        .iter()
-        .map(|name| {
-            names::take_apart(name)
-                .expect("an item name")
-                .prefix
-                .to_vec()
-        })
-        .collect();
-    support::heading();
+/// The prefixes of item names.
+fn prefixes(names: &[Vec<u8>]) -> Vec<Vec<u8>> {
+    let prefix = |name: &Vec<u8>| {
+        let item = zombirels::names::take_apart(name).expect("an item name");
+        item.prefix.to_vec()
+    };
+    names.iter().map(prefix).collect()
+}
+
+/// Judges each text, and takes item names apart.
+fn judgements(texts: &[Vec<u8>], parts: &[Vec<u8>]) {
     compare(
         "is_part_name",
-        &parts,
+        parts,
         |a, _| usize::from(names::is_part_name(a)),
         |a, _| usize::from(ref_names::is_part_name(a)),
     );
     compare(
         "take_apart",
-        &texts,
+        texts,
         |a, _| taken_by_archive(a),
         |a, _| taken_by_reference(a),
     );
-    compare(
-        "is_media_type",
-        &types,
-        |a, _| usize::from(names::is_media_type(a)),
-        |a, _| usize::from(ref_names::is_media_type(a)),
-    );
+    for (what, types) in [
+        ("is_media_type", typical_media_types()),
+        ("is_media_type, parameters", typical_parameters()),
+    ] {
+        compare(
+            what,
+            &types,
+            |a, _| usize::from(names::is_media_type(a)),
+            |a, _| usize::from(ref_names::is_media_type(a)),
+        );
+    }
     compare(
         "is_iri",
-        &iris,
+        &typical_iris(),
         |a, _| usize::from(iri::is_iri(a)),
         |a, _| usize::from(ref_iri::is_iri(a)),
     );
+}
+
+/// Compares each name with its neighbour.
+fn comparisons(parts: &[Vec<u8>]) {
     compare(
         "is_equivalent",
-        &parts,
+        parts,
         |a, b| usize::from(names::is_equivalent(a, b)),
         |a, b| usize::from(ref_names::is_equivalent(a, b)),
     );
     compare(
         "compare_folded",
-        &parts,
+        parts,
         |a, b| names::compare_folded(a, b) as usize,
         |a, b| ref_names::compare_folded(a, b) as usize,
     );
-    compare(
-        "is_media_type, parameters",
-        &typical_parameters(),
-        |a, _| usize::from(names::is_media_type(a)),
-        |a, _| usize::from(ref_names::is_media_type(a)),
-    );
+}
+
+fn main() {
+    let texts = typical_names();
+    let parts = prefixes(&texts);
+    support::heading();
+    judgements(&texts, &parts);
+    comparisons(&parts);
 }

@@ -50,6 +50,11 @@ pub or-false-right : (a b : Bool) → (a || b) ≡ false → b ≡ false
 or-false-right true b e = absurd (true≢false e)
 or-false-right false b e = e
 
+-- a test whose failing is absurd passes
+pub passing : (a : Bool) → (a ≡ false → ⊥) → a ≡ true
+passing true f = refl
+passing false f = absurd (f refl)
+
 -- a test whose passing is absurd fails
 pub not-passing : (a : Bool) → (a ≡ true → ⊥) → a ≡ false
 not-passing true f = absurd (f refl)

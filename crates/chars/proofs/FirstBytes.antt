@@ -9,7 +9,7 @@ use native.Mathlib.Omega.{arith}
 use lib.Dec.{eqb}
 use lib.ListN.{getD, length, take, length-append}
 use lib.Seq.{take-length, take-append-seam}
-use borrow.Author.Tests.{eqb-true, eq-eqb, ne-eqb}
+use borrow.Author.Tests.{eqb-true, eq-eqb, ne-eqb, not-true}
 use Rattle.base.proofs.Bools.{and-left, and-right, and-true}
 use Rattle.base.proofs.Lists.{getD-seam}
 use Rattle.chars.specs.Lists.{every, indexOf, firstOf, firstNot}
@@ -75,6 +75,11 @@ module _ (p : ℕ → Bool) where
 -- the first byte b of s, if there is one
 pub at-index : (b : ℕ) (s : List ℕ) → indexOf b s < length s → getD s (indexOf b s) 0 ≡ b
 at-index b s h = eqb-true _ b (at-first (λ (x : ℕ). eqb x b) s h)
+
+-- b stands nowhere in s
+pub index-none : (b : ℕ) (s : List ℕ) → every (λ (x : ℕ). not (eqb x b)) s ≡ true → indexOf b s ≡ length s
+index-none b s e =
+    first-is (λ (x : ℕ). eqb x b) (λ (x : ℕ). not (eqb x b)) (λ x q. not-true (eqb x b) q) s (length s) (omega arith) (rw (take-length s) e) (λ l. absurd (omega arith))
 
 pub index-before : (b : ℕ) (s : List ℕ) → indexOf b (take (indexOf b s) s) ≡ length (take (indexOf b s) s)
 unfolding firstOf

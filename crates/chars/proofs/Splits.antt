@@ -1,19 +1,21 @@
 -- The stretches of a text between its bytes b, walked from the position i on.
 -- Assumes nothing.
 use mathlib.Core.Path.{_≡_, refl, sym, ap, _∙_}
-use mathlib.Core.Bool.{Bool, true, false, not, _&&_, cond, false≢true}
+use mathlib.Core.Bool.{Bool, true, false, not, _&&_, cond}
 use mathlib.Core.List.{List, [], _∷_, _++_, flatMap}
 use mathlib.Core.Logic.{⊎-elim}
 use Prim.Native.Nat.{ℕ, suc, _+_, _-_, _≤_, _<_}
 use native.Mathlib.Nat.{le-of-suc-le-suc, not-suc-le-zero, eq-or-lt-of-le}
+use native.Mathlib.Numerals.{add-one}
 use native.Mathlib.Omega.{arith}
 use lib.Dec.{eqb}
-use lib.ListN.{length, take, drop, length-drop}
-use lib.Seq.{drop-drop, take-all}
-use borrow.Author.Tests.{eqb-true, eq-eqb}
+use lib.ListN.{length, take, drop, length-append, length-drop}
+use lib.Seq.{drop-drop, take-all, take-append-seam, drop-append-add}
+use borrow.Author.Tests.{eqb-true}
 use Rattle.chars.specs.Lists.{every, firstOf, indexOf, split, cut, all}
 use Rattle.base.proofs.Bools.{and-left, and-right, and-true}
-use Rattle.chars.proofs.Searches.{index-le}
+use Rattle.chars.proofs.Searches.{index-le, index-append}
+use Rattle.chars.proofs.FirstBytes.{index-none}
 use Rattle.chars.specs.Bytes.{slash}
 
 module _ (b : ℕ) where
@@ -64,25 +66,15 @@ module _ (b : ℕ) where
       all-not f = ⊎-elim (λ q. rw (last-is q, f)) (λ l. rw (more-is l, f)) (eq-or-lt-of-le stretch-le)
 
 -- where w holds no b: alone it is one stretch, before a b the first
-module _ (b : ℕ) where
-  pub split-whole : (w : List ℕ) → every (λ (x : ℕ). not (eqb x b)) w ≡ true → split b w ≡ w ∷ []
-  unfolding split every
-  split-whole [] e = refl
-  split-whole (x ∷ w) e = go (eqb x b) (λ f. split-whole w f) e
-    where
-      go : (q : Bool) → (every (λ (y : ℕ). not (eqb y b)) w ≡ true → split b w ≡ w ∷ []) → (not q && every (λ (y : ℕ). not (eqb y b)) w) ≡ true → cut q x (split b w) ≡ (x ∷ w) ∷ []
-      go true ih f = absurd (false≢true f)
-      go false ih f = ap (cut false x) (ih f)
+module _ (b : ℕ) (w : List ℕ) (e : every (λ (x : ℕ). not (eqb x b)) w ≡ true) where
+  pub split-whole : split b w ≡ w ∷ []
+  split-whole = split-last b w (index-none b w e)
 
-  pub split-append : (w s : List ℕ) → every (λ (x : ℕ). not (eqb x b)) w ≡ true → split b (w ++ b ∷ s) ≡ w ∷ split b s
-  unfolding split every
-  split-append [] s e = rw (eq-eqb b b refl)
-  split-append (x ∷ w) s e = go (eqb x b) (λ f. split-append w s f) e
-    where
-      go : (q : Bool) → (every (λ (y : ℕ). not (eqb y b)) w ≡ true → split b (w ++ b ∷ s) ≡ w ∷ split b s) → (not q && every (λ (y : ℕ). not (eqb y b)) w) ≡ true
-          → cut q x (split b (w ++ b ∷ s)) ≡ (x ∷ w) ∷ split b s
-      go true ih f = absurd (false≢true f)
-      go false ih f = ap (cut false x) (ih f)
+  pub split-append : (s : List ℕ) → split b (w ++ b ∷ s) ≡ w ∷ split b s
+  split-append s =
+      let n : indexOf b (w ++ b ∷ s) ≡ length w = index-append b w s e in
+      let l : indexOf b (w ++ b ∷ s) < length (w ++ b ∷ s) = omega (arith, length-append w (b ∷ s)) in
+      split-more b (w ++ b ∷ s) l ∙ rw (n, take-append-seam w (b ∷ s), ← add-one, drop-append-add w (b ∷ s) 1)
 
 -- what every byte of every stretch passes, and b, every byte passes
 pub split-every : (b : ℕ) (q : ℕ → Bool) → q b ≡ true → (s : List ℕ) → all (every q) (split b s) ≡ true → every q s ≡ true

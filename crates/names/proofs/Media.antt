@@ -14,22 +14,21 @@ use borrow.Author.Tests.{ltb-true, eqb-true, eqb-false, eq-eqb, ne-eqb, lt-ltb, 
 use Rattle.chars.specs.Bytes.{slash, semicolon, equalsSign, member}
 use Rattle.chars.specs.Lists.{indexOf, firstNot, split, all}
 use Rattle.chars.specs.declared.search.Alphabet.the-variants.{Token}
-use Rattle.base.proofs.Bools.{or-false-left, or-false-right}
+use Rattle.base.proofs.Bools.{or-false-left, or-false-right, passing, not-passing}
 use Rattle.chars.proofs.Searches.{first-le, index-le}
 use Rattle.chars.proofs.Splits.{split-last, split-more, split-some}
 use Rattle.names.specs.Types.{tokenPair, typeAndParameters}
 use Rattle.names.specs.Reading.{Parts, stretch, pairLength}
 use Rattle.names.proofs.Tokens.{firstEnd, secondEnd, PairRead, pair-read, pair-made}
 
+pair-length : (b : ℕ) (u : List ℕ) (q : Bool) → tokenPair b (stretch u) ≡ q → pairLength b u ≡ cond q (indexOf semicolon u) 0
+unfolding pairLength
+pair-length b u q e = rw e
+
 module _ (b : ℕ) (h : Parts b) where
   -- what is not read so has no pair
   unread : (u : List ℕ) → (PairRead b u → ⊥) → pairLength b u ≡ 0
-  unfolding pairLength
-  unread u f = go (tokenPair b (stretch u)) refl
-    where
-      go : (q : Bool) → tokenPair b (stretch u) ≡ q → cond q (indexOf semicolon u) 0 ≡ 0
-      go true e = absurd (f (pair-read b h u e))
-      go false e = refl
+  unread u f = pair-length b u false (not-passing (tokenPair b (stretch u)) (λ e. f (pair-read b h u e)))
 
   -- the token from the position `from` on ends at i, the one from i + 1 on at e
   module _ (s : List ℕ) (from i e : ℕ) (here : i ≡ from + firstEnd (drop from s)) (there : e ≡ i + 1 + firstNot (member Token) (drop (i + 1) s)) where
@@ -100,37 +99,22 @@ all-headed (t ∷ ps) n = refl
 
 -- a walk over them has come to i, and the pair from there on ends at e
 module _ (b : ℕ) (h : Parts b) (s : List ℕ) (i e : ℕ) (in-s : i ≤ length s) (here : e ≡ i + pairLength b (drop i s)) where
-  first-pair : (q : Bool) → tokenPair b (stretch (drop i s)) ≡ q → e ≡ i + cond q (indexOf semicolon (drop i s)) 0
-  unfolding pairLength
-  first-pair q t = here ∙ rw t
-
   -- the stretch is the last one
   whole-rest : indexOf semicolon (drop i s) ≡ length (drop i s) → stretch (drop i s) ≡ drop i s
   whole-rest m = rw (m) (take-length (drop i s))
 
   pub stretches-not : e ≡ i → headed b (split semicolon (drop i s)) ≡ false
-  stretches-not z = ⊎-elim
-      (λ m. rw (split-last semicolon (drop i s) m, ← whole-rest m, no-pair))
-      (λ l. rw (split-more semicolon (drop i s) l, no-pair))
+  stretches-not z =
+      let none : tokenPair b (stretch (drop i s)) ≡ false = not-passing _ (λ t. omega (arith, here, z, pair-made b h (drop i s) (pair-read b h (drop i s) t))) in
+      ⊎-elim (λ m. rw (split-last semicolon (drop i s) m, ← whole-rest m, none)) (λ l. rw (split-more semicolon (drop i s) l, none))
       (eq-or-lt-of-le (index-le semicolon (drop i s)))
-    where
-      go : (q : Bool) → tokenPair b (stretch (drop i s)) ≡ q → q ≡ false
-      go true t = absurd (omega (arith, here, z, pair-made b h (drop i s) (pair-read b h (drop i s) t)))
-      go false t = refl
-
-      no-pair : tokenPair b (stretch (drop i s)) ≡ false
-      no-pair = go _ refl
 
   module _ (n : e ≡ i → ⊥) where
     pair-there : tokenPair b (stretch (drop i s)) ≡ true
-    pair-there = go (tokenPair b (stretch (drop i s))) refl
-      where
-        go : (q : Bool) → tokenPair b (stretch (drop i s)) ≡ q → q ≡ true
-        go true t = refl
-        go false t = absurd (n (omega (arith, first-pair false t)))
+    pair-there = passing _ (λ t. n (omega (arith, here, pair-length b (drop i s) false t)))
 
     ends-there : e ≡ i + indexOf semicolon (drop i s)
-    ends-there = first-pair true pair-there
+    ends-there = here ∙ ap (λ (k : ℕ). i + k) (pair-length b (drop i s) true pair-there)
 
     pub stretches-within : e ≤ length s
     stretches-within = omega (arith, ends-there, index-le semicolon (drop i s), length-drop i s)

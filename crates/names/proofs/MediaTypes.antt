@@ -9,7 +9,7 @@ use lib.ListN.{length, take, drop, length-append}
 use borrow.Author.Tests.{eqb-true, le-leb}
 use Rattle.chars.specs.Bytes.{slash, semicolon, equalsSign, within}
 use Rattle.chars.specs.Lists.{every, indexOf, lacks, split, all}
-use Rattle.base.proofs.Bools.{and-left, and-right, and-true, and-right-true, and-assoc}
+use Rattle.base.proofs.Bools.{and-right, and-both, and-true, and-right-true, and-assoc}
 use Rattle.chars.proofs.Splits.{split-last, split-whole, split-append, rejoin, rejoin-split}
 use Rattle.chars.proofs.UnitBytes.{but}
 use Rattle.names.specs.Types.{token, tokenPair, typeAndParameters, mediaType}
@@ -44,17 +44,23 @@ earlier-types-stay s e = one-stretch s (split-whole semicolon s none) ∙ e
 abbrev after : List Two → List ℕ
 after ps = flatMap (λ (p : Two). semicolon ∷ parted equalsSign p) ps
 
+two-lacks : (b : ℕ) → Parts b → (t : Two) → every (but semicolon) (parted b t) ≡ true
+two-lacks b h t = pair-lacks b h (t .left) (t .right) (t .leftToken) (t .rightToken)
+
+two-pair : (b : ℕ) → Parts b → (t : Two) → tokenPair b (parted b t) ≡ true
+two-pair b h t = pair-of b h (t .left) (t .right) (t .leftToken) (t .rightToken)
+
 -- a type written out is cut into its type and its parameters
 split-followed : (b : ℕ) → Parts b → (t : Two) (ps : List Two) → split semicolon (parted b t ++ after ps) ≡ parted b t ∷ map (parted equalsSign) ps
 unfolding flatMap
-split-followed b h t [] = rw (append-nil (parted b t)) (split-whole semicolon (parted b t) (pair-lacks b h (t .left) (t .right) (t .leftToken) (t .rightToken)))
+split-followed b h t [] = rw (append-nil (parted b t)) (split-whole semicolon (parted b t) (two-lacks b h t))
 split-followed b h t (p ∷ ps) =
-    split-append semicolon (parted b t) (parted equalsSign p ++ after ps) (pair-lacks b h (t .left) (t .right) (t .leftToken) (t .rightToken))
+    split-append semicolon (parted b t) (two-lacks b h t) (parted equalsSign p ++ after ps)
     ∙ ap (λ (l : List (List ℕ)). parted b t ∷ l) (split-followed equalsSign equals-parts p ps)
 
 all-pairs : (ps : List Two) → all (tokenPair equalsSign) (map (parted equalsSign) ps) ≡ true
 all-pairs [] = refl
-all-pairs (p ∷ ps) = and-true _ _ (pair-of equalsSign equals-parts (p .left) (p .right) (p .leftToken) (p .rightToken)) (all-pairs ps)
+all-pairs (p ∷ ps) = and-true _ _ (two-pair equalsSign equals-parts p) (all-pairs ps)
 
 followed-some : (t : Two) (ps : List Two) → 3 ≤ length (followed t ps)
 followed-some t ps =
@@ -67,7 +73,7 @@ followed-type t ps l =
       le-leb 3 (length (followed t ps)) (followed-some t ps),
       le-leb (length (followed t ps)) 127 l,
       split-followed slash slash-parts t ps,
-      pair-of slash slash-parts (t .left) (t .right) (t .leftToken) (t .rightToken),
+      two-pair slash slash-parts t,
       all-pairs ps,
     )
 
@@ -83,27 +89,25 @@ two-of b s e = record {
 abbrev parameters-of : (l : List (List ℕ)) → all (tokenPair equalsSign) l ≡ true → List Two
 parameters-of [] e = []
 parameters-of (w ∷ l) e =
-    two-of equalsSign w (and-left (tokenPair equalsSign w) (all (tokenPair equalsSign) l) e)
-    ∷ parameters-of l (and-right (tokenPair equalsSign w) (all (tokenPair equalsSign) l) e)
+    let f = and-both (tokenPair equalsSign w) (all (tokenPair equalsSign) l) e in
+    two-of equalsSign w (f .0) ∷ parameters-of l (f .1)
 
 parameters-is : (l : List (List ℕ)) (e : all (tokenPair equalsSign) l ≡ true) → flatMap (λ (v : List ℕ). semicolon ∷ v) l ≡ after (parameters-of l e)
 unfolding flatMap
 parameters-is [] e = refl
 parameters-is (w ∷ l) e =
-    ap (λ (s : List ℕ). semicolon ∷ (w ++ s)) (parameters-is l (and-right (tokenPair equalsSign w) (all (tokenPair equalsSign) l) e))
-    ∙ ap (λ (v : List ℕ). semicolon ∷ (v ++ after (parameters-of l (and-right (tokenPair equalsSign w) (all (tokenPair equalsSign) l) e))))
-    (pair-is equalsSign w (and-left (tokenPair equalsSign w) (all (tokenPair equalsSign) l) e))
+    let f = and-both (tokenPair equalsSign w) (all (tokenPair equalsSign) l) e in
+    ap (λ (s : List ℕ). semicolon ∷ (w ++ s)) (parameters-is l (f .1)) ∙ ap (λ (v : List ℕ). semicolon ∷ (v ++ after (parameters-of l (f .1)))) (pair-is equalsSign w (f .0))
 
 followed-from : (l : List (List ℕ)) → typeAndParameters l ≡ true → Followed (rejoin semicolon l)
 followed-from [] e = absurd (false≢true e)
 followed-from (w ∷ l) e =
-    let f : tokenPair slash w ≡ true = and-left (tokenPair slash w) (all (tokenPair equalsSign) l) e in
-    let g : all (tokenPair equalsSign) l ≡ true = and-right (tokenPair slash w) (all (tokenPair equalsSign) l) e in
+    let f = and-both (tokenPair slash w) (all (tokenPair equalsSign) l) e in
     record {
-      type = two-of slash w f;
-      parameters = parameters-of l g;
-      is = ap (λ (v : List ℕ). v ++ flatMap (λ (u : List ℕ). semicolon ∷ u) l) (pair-is slash w f)
-          ∙ ap (λ (r : List ℕ). parted slash (two-of slash w f) ++ r) (parameters-is l g);
+      type = two-of slash w (f .0);
+      parameters = parameters-of l (f .1);
+      is = ap (λ (v : List ℕ). v ++ flatMap (λ (u : List ℕ). semicolon ∷ u) l) (pair-is slash w (f .0))
+          ∙ ap (λ (r : List ℕ). parted slash (two-of slash w (f .0)) ++ r) (parameters-is l (f .1));
     }
 
 media-followed : (s : List ℕ) → mediaType s ≡ true → Followed s
