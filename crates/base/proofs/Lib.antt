@@ -4,4 +4,5 @@ pub mod Parts
 pub mod Copies
 pub mod Writes
 pub mod Blocks
+pub mod Turns
 pub mod Cases

@@ -2,11 +2,11 @@
 -- Assumes nothing.
 use mathlib.Core.Path.{_≡_, sym, ap, _∙_}
 use Prim.Native.Nat.{ℕ, _+_, _-_, _≤_, _<_}
-use mathlib.Core.List.{List, _++_, append-assoc}
+use mathlib.Core.List.{List, [], _++_, append-assoc}
 use native.Mathlib.Omega.{arith}
 use native.Mathlib.Nat.{add-assoc}
 use lib.ListN.{length, take, drop, getD, length-append, length-take, length-drop, take-append-drop, List·getD-append}
-use lib.Seq.{length-take-le, take-add, drop-drop, getD-take, getD-drop, getD-append-add, ext-getD}
+use lib.Seq.{length-take-le, take-add, take-at, drop-at, drop-drop, getD-take, getD-drop, getD-append-add, ext-getD}
 use Rattle.base.specs.Buffer.{part, splice}
 
 module _ (a n : ℕ) (l : List ℕ) where
@@ -26,10 +26,22 @@ module _ (a n : ℕ) (l : List ℕ) where
       ∙ ap (λ (r : List ℕ). r ++ drop (a + n) l) (sym (take-add a n l))
       ∙ take-append-drop (a + n) l
 
+pub part-none : (a n : ℕ) (l : List ℕ) → n ≡ 0 → part a n l ≡ []
+unfolding part
+part-none a n l e = ap (λ (k : ℕ). take k (drop a l)) e
+
 -- a part and the one behind it
 pub part-add : (a n k : ℕ) (l : List ℕ) → part a (n + k) l ≡ part a n l ++ part (a + n) k l
 unfolding part
 part-add a n k l = take-add n k (drop a l) ∙ ap (λ (r : List ℕ). take n (drop a l) ++ take k r) (drop-drop n a l)
+
+-- the first j bytes of a part of j + k, and the others
+module _ (a j k : ℕ) (l : List ℕ) (h : a + j ≤ length l) where
+  pub take-part : take j (part a (j + k) l) ≡ part a j l
+  take-part = ap (take j) (part-add a j k l) ∙ take-at (part a j l) (part (a + j) k l) j (length-part a j l h)
+
+  pub drop-part : drop j (part a (j + k) l) ≡ part (a + j) k l
+  drop-part = ap (drop j) (part-add a j k l) ∙ drop-at (part a j l) (part (a + j) k l) j (length-part a j l h)
 
 module _ (l : List ℕ) (a : ℕ) (s : List ℕ) where
   pub length-splice : a + length s ≤ length l → length (splice l a s) ≡ length l

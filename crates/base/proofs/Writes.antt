@@ -82,6 +82,19 @@ join-before {l} {m} {o} {b} {j} {t} a k {s} p q e =
     ∙ sym (append-assoc w t rest) ∙ ap (λ (x : List ℕ). x ++ rest) (append-assoc (take a l) s t) ∙ ap (λ (x : ℕ). take a l ++ (s ++ t) ++ drop x l) es)
     (simp length-append (omega arith)) (omega arith)
 
+-- a write over another one
+pub over : {l m o : List ℕ} {a k : ℕ} {s t : List ℕ} → Write l m a k s → Write m o a k t → Write l o a k t
+unfolding splice part
+over {l} {m} {o} {a} {k} {s} {t} p q =
+    let w : List ℕ = take a l ++ s in
+    let lw : length w ≡ a + length t = length-append (take a l) s ∙ ap (λ (x : ℕ). x + length s) (length-take a l) ∙ omega arith in
+    let es : a + length s ≡ a + length t = omega arith in
+    let ed : drop (a + length t) m ≡ drop (a + length t) l =
+    ap (drop (a + length t)) (p .is) ∙ drop-at w (drop (a + length s) l) (a + length t) lw ∙ ap (λ (x : ℕ). drop x l) es in
+    write l o a k t
+    (q .is ∙ ap (λ (x : List ℕ). x ++ t ++ drop (a + length t) m) (before p 0 a (omega arith)) ∙ ap (λ (x : List ℕ). take a l ++ t ++ x) ed)
+    (q .size) (omega (arith, p .fits))
+
 pub all-write : (l m : List ℕ) (a : ℕ) (s : List ℕ) → m ≡ splice l a s → a + length s ≤ length l → Write l m a (length s) s
 all-write l m a s e h = write l m a (length s) s e refl h
 

@@ -2,7 +2,8 @@
 //
 // They pass through a block of the function's own. No other memory can lie there, so the compiler sees two copies that do not overlap, and makes one call of the machine's fastest move of them; the block itself vanishes.
 ghost use mathlib.Core.Path.{_≡_};
-ghost use Prim.Native.Nat.{_+_, _≤_, _<_};
+ghost use mathlib.Core.List.{_++_};
+ghost use Prim.Native.Nat.{_+_, _-_, _≤_, _<_};
 ghost use lib.ListN.{length};
 ghost use Rattle.base.specs.Buffer.{part, splice};
 
@@ -105,5 +106,46 @@ pub fn move_up(pkg: &mut [u8], from: usize, to: usize, count: usize)
         let k = block_size(i);
         i -= k;
         move_block(pkg, from + i, to + i, k);
+    }
+}
+
+// Moves the `count` bytes from `from` on to `to`, up or down.
+pub fn shift(pkg: &mut [u8], from: usize, to: usize, count: usize)
+    requires { ⌜ (from + count ≤ length (now pkg)) × (to + count ≤ length (now pkg)) ⌝ }
+    ensures { λ _. ⌜ now (pkg .exit) ≡ splice (now (pkg .entry)) to (part from count (now (pkg .entry))) ⌝ }
+{
+    if to <= from {
+        move_down(pkg, from, to, count);
+        return;
+    }
+    move_up(pkg, from, to, count);
+}
+
+// `turn`, of a block at most.
+fn turn_block(pkg: &mut [u8], a: usize, n: usize, k: usize)
+    requires { ⌜ (k ≤ n) × (k ≤ 4096) × (a + n ≤ length (now pkg)) ⌝ }
+    ensures { λ _. ⌜ now (pkg .exit) ≡ splice (now (pkg .entry)) a (part (a + k) (n - k) (now (pkg .entry)) ++ part a k (now (pkg .entry))) ⌝ }
+{
+    let e = a + k;
+    let m = n - k;
+    let mut block = [0; 4096];
+    copy_in(&mut block, 0, &pkg[a..e]);
+    move_down(pkg, e, a, m);
+    copy_in(pkg, a + m, &block[0..k]);
+}
+
+// Moves the first k of the n bytes from a on behind the others.
+pub fn turn(pkg: &mut [u8], a: usize, n: usize, k: usize)
+    requires { ⌜ (k ≤ n) × (a + n ≤ length (now pkg)) ⌝ }
+    ensures { λ _. ⌜ now (pkg .exit) ≡ splice (now (pkg .entry)) a (part (a + k) (n - k) (now (pkg .entry)) ++ part a k (now (pkg .entry))) ⌝ }
+{
+    if k == n {
+        return;
+    }
+    let mut i = 0;
+    while i < k {
+        let s = block_size(k - i);
+        turn_block(pkg, a, n, s);
+        i += s;
     }
 }
