@@ -35,7 +35,7 @@ abbrev pub choose : Bool → Answer → Answer → Answer
 choose true a b = a
 choose false a b = b
 
--- what no call answers, whatever it is asked: the number is none of document 01's, and there are no values
+-- what no call answers, whatever it is asked: the number is none of documents 01 and 02, and there are no values
 abbrev pub unanswered : Answer
 unanswered = answer 256 [] []
 

@@ -213,7 +213,10 @@ module _ (b l m : List ℕ) (n c e r : ℕ) (g : Gathering b l c) (en : n ≡ co
 
 -- the free place: at the end as it is, or once the rows are gathered
 pub place-here : (b : List ℕ) (k e h : ℕ) → e ≡ endOf b → h ≡ heapSize b → e + k ≤ h → Sound b → Placed b b k e
-place-here b k e h ee eh q so = record { sound = so; rows = refl; cap = refl; format = refl; end = ee; fits = λ z. omega arith }
+place-here b k e h ee eh q so = record { sound = so; rows = refl; cap = refl; format = refl; end = ee; close = inl (omega arith) }
+
+pub place-full : (b : List ℕ) (k e u : ℕ) → e ≡ endOf b → u ≡ usedOf b → e ≡ u → Sound b → Placed b b k e
+place-full b k e u ee eu q so = record { sound = so; rows = refl; cap = refl; format = refl; end = ee; close = inr (omega arith) }
 
 pub place-gathered : (b m : List ℕ) (k e : ℕ) → length m ≡ length b → e ≡ endOf m → (Sound b → Gathered b m) → Sound b → Placed b m k e
 place-gathered b m k e len ee f so =
@@ -225,5 +228,5 @@ place-gathered b m k e len ee f so =
       cap = g .cap;
       format = g .format;
       end = ee;
-      fits = λ z. omega (arith, g .end, u, so .shape .room, so .shape .small);
+      close = inr (omega (arith, g .end));
     }

@@ -8,7 +8,7 @@ use lib.ListN.{length, getD}
 use Rattle.base.specs.Buffer.{part}
 use Rattle.store.specs.Buffer.{num4, le4}
 use Rattle.store.specs.Layout.{formatOf, countOf}
-use Rattle.store.specs.Rows.{noRow, rowsOf, rowAt}
+use Rattle.store.specs.Rows.{Row, noRow, rowsOf, rowAt}
 use Rattle.base.proofs.Parts.{getD-part}
 use Rattle.base.proofs.Writes.{part-part}
 use Rattle.store.proofs.Tabulated.{length-tabulate, getD-tabulate}
@@ -36,6 +36,14 @@ rows-count b = length-tabulate (countOf b) (rowAt b)
 
 pub row-getD : (b : List ℕ) (i : ℕ) → i < countOf b → getD (rowsOf b) i noRow ≡ rowAt b i
 row-getD b i h = getD-tabulate (countOf b) (rowAt b) i h
+
+-- two buffers with the same rows
+module _ (b m : List ℕ) (e : rowsOf m ≡ rowsOf b) where
+  pub same-rows-count : countOf m ≡ countOf b
+  same-rows-count = sym (rows-count m) ∙ ap length e ∙ rows-count b
+
+  pub same-rows-row : (i : ℕ) → i < countOf b → rowAt m i ≡ rowAt b i
+  same-rows-row i h = sym (row-getD m i (omega (arith, same-rows-count))) ∙ ap (λ (l : List Row). getD l i noRow) e ∙ row-getD b i h
 
 -- two buffers with the same first eight bytes have the same mark and format
 pub kind-same : (b m : List ℕ) → 8 ≤ length b → 8 ≤ length m → part 0 8 m ≡ part 0 8 b → (part 0 7 m ≡ part 0 7 b) × (formatOf m ≡ formatOf b)

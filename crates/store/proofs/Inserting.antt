@@ -210,7 +210,7 @@ module _ (b l : List ℕ) (n u a r k : ℕ) (ro : Room b r k) (en : n ≡ countO
   place-above h = omega (arith, same-used, pl .sound .shape .gaps, pl .end)
 
   pub place-fits : (h : ℕ) → h ≡ heapSize l → h < a + k → ⊥
-  place-fits h e q = omega (arith, pl .fits (omega arith))
+  place-fits h e q = ⊎-elim (λ z. omega arith) (λ z. omega (arith, same-used, pl .cap, pl .sound .shape .room, pl .sound .shape .small)) (pl .close)
 
   pub insert-is : (b1 b2 b3 b4 : List ℕ) (f0 f1 f2 f3 : List ℕ) (t h : ℕ) → k ≡ size f0 f1 f2 f3 → 0 < length f0 → t < 2 ^ 32 → h ≡ heapSize l → a + k ≤ h
       → b1 ≡ splice l (heapStart + a) (fields f0 f1 f2 f3)

@@ -3,8 +3,9 @@ pub mod Joined
 pub mod Tabulated
 pub mod Sums
 pub mod SlotNumbers
-pub mod RowPlaces
 pub mod Headers
+pub mod RowPlaces
+pub mod SlotWrites
 pub mod PackageTest
 pub mod Starting
 pub mod Reading
@@ -16,3 +17,10 @@ pub mod Ordering
 pub mod Gathering
 pub mod Carrying
 pub mod Taking
+pub mod Lowering
+pub mod Sending
+pub mod SentRows
+pub mod Lasting
+pub mod PassedSlots
+pub mod Passed
+pub mod Respelled

@@ -9,15 +9,15 @@ use lib.ListN.{length, getD}
 use Rattle.base.specs.Buffer.{part, splice}
 use Rattle.store.specs.Buffer.{le4}
 use Rattle.store.specs.Layout.{heapStart, formatOf, capOf, countOf, usedOf, endOf, slotAt, slotOf, offOf, sizeOf}
-use Rattle.store.specs.Rows.{noRow, rowAt, rowsOf, rowSize, tabulate, removeAt, total}
+use Rattle.store.specs.Rows.{Row, noRow, rowAt, rowsOf, rowSize, tabulate, removeAt, replaceAt, total}
 use Rattle.store.specs.Packages.{Sound, Removed}
 use Rattle.store.specs.Places.{EndWithout}
 use Rattle.base.proofs.Parts.{length-part}
 use Rattle.base.proofs.Writes.{Write, write, before, after, within, part-part}
 use Rattle.store.proofs.Numbers.{num-within, num-before}
 use Rattle.store.proofs.Headers.{counts-0, counts-4, counts-8, counts-size, kind-same, rows-count, row-getD}
-use Rattle.store.proofs.RowPlaces.{three, row-same, row-size}
-use Rattle.store.proofs.Tabulated.{tabulate-remove, total-remove}
+use Rattle.store.proofs.RowPlaces.{three, row-same, row-size, row-sized}
+use Rattle.store.proofs.Tabulated.{tabulate-remove, total-remove, total-replace, length-replace, getD-replace}
 
 -- slot i of m is slot j of b, which was before the slot r or past it
 record Kept (b m : List ℕ) (n r i : ℕ) : Type 0 where
@@ -37,6 +37,17 @@ size-used b r so h =
     let e = total-remove r (rowsOf b) (rw rows-count h) in
     let f : sizeOf (slotOf b r) ≡ rowSize (getD (rowsOf b) r noRow) = sym z ∙ ap rowSize (sym (row-getD b r h)) in
     omega (arith, so .exact)
+
+-- two rows have no more bytes than are in use
+pub two-used : (b : List ℕ) (i j : ℕ) → Sound b → i < countOf b → j < countOf b → (i ≡ j → ⊥) → sizeOf (slotOf b i) + sizeOf (slotOf b j) ≤ usedOf b
+two-used b i j so hi hj ne =
+    let rows = rows-count b in
+    let none : List Row = replaceAt j noRow (rowsOf b) in
+    let hj2 : j < length (rowsOf b) = omega arith in
+    let len = length-replace j noRow (rowsOf b) hj2 in
+    let ei : rowSize (getD none i noRow) ≡ sizeOf (slotOf b i) = ap rowSize (getD-replace j i noRow (rowsOf b) hj2 ne ∙ row-getD b i hi) ∙ row-sized b so i hi in
+    let ej : rowSize (getD (rowsOf b) j noRow) ≡ sizeOf (slotOf b j) = ap rowSize (row-getD b j hj) ∙ row-sized b so j hj in
+    omega (arith, total-replace j noRow (rowsOf b) hj2, total-remove i none (omega arith), so .exact)
 
 -- the slots moved down, the counts; k bytes at o are given up, u were in use, x is the new end
 module _ (b b1 b2 : List ℕ) (n u e o k x r : ℕ)

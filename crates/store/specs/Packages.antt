@@ -3,14 +3,14 @@
 use mathlib.Core.Path.{_≡_}
 use mathlib.Core.Logic.{_⊎_}
 use mathlib.Core.Bool.{Bool, _&&_}
-use mathlib.Core.List.{List}
-use Prim.Native.Nat.{ℕ, _+_, _≤_, _<_}
+use mathlib.Core.List.{List, [], _++_}
+use Prim.Native.Nat.{ℕ, _+_, _-_, _≤_, _<_}
 use lib.Dec.{leb, eqb}
-use lib.ListN.{length}
+use lib.ListN.{length, take, drop}
 use Rattle.base.specs.Buffer.{part}
 use Rattle.store.specs.Buffer.{num4}
 use Rattle.store.specs.Layout.{slotCount, heapStart, maxCapacity, mark, formatOf, packageFormat, capOf, countOf, usedOf, endOf, slotOf, offOf, sizeOf}
-use Rattle.store.specs.Rows.{Row, rowsOf, insertAt, removeAt, total}
+use Rattle.store.specs.Rows.{Row, rowAt, rowsOf, insertAt, removeAt, replaceAt, withBytes, total}
 
 -- the mark stands at the start: two numbers of four bytes cover its seven
 unfoldable pub isMarked : List ℕ → Bool
@@ -46,6 +46,13 @@ pub record Sound (b : List ℕ) : Type 0 where
   pub apart : (i j : ℕ) → i < j → j < countOf b → Apart (slotOf b i) (slotOf b j)
   pub exact : total (rowsOf b) ≡ usedOf b
 
+-- m has the rows rs in the place of those of b, with the same capacity and format
+pub record Became (b m : List ℕ) (rs : List Row) : Type 0 where
+  pub sound : Sound m
+  pub rows : rowsOf m ≡ rs
+  pub cap : capOf m ≡ capOf b
+  pub format : formatOf m ≡ formatOf b
+
 -- m is b with the row x put in at r
 pub record Inserted (b m : List ℕ) (r : ℕ) (x : Row) : Type 0 where
   pub sound : Sound m
@@ -73,3 +80,25 @@ pub record Gathered (b m : List ℕ) : Type 0 where
   pub cap : capOf m ≡ capOf b
   pub format : formatOf m ≡ formatOf b
   pub end : endOf m ≡ usedOf m
+
+-- the last n bytes of row j's field 2 can go to the end of row i's: both rows have nothing behind that field, and row j keeps some bytes
+pub record Passing (b : List ℕ) (j i n : ℕ) : Type 0 where
+  pub from : j < countOf b
+  pub to : i < countOf b
+  pub other : i ≡ j → ⊥
+  pub last : (rowAt b j .f3 ≡ []) × (rowAt b i .f3 ≡ [])
+  pub kept : 0 < length (rowAt b j .f0)
+  pub enough : n ≤ length (rowAt b j .f2)
+
+-- the rows after it
+abbrev pub passed : List ℕ → ℕ → ℕ → ℕ → List Row
+passed b j i n =
+    replaceAt i (withBytes (rowAt b i) (rowAt b i .f2 ++ drop (length (rowAt b j .f2) - n) (rowAt b j .f2)))
+    (replaceAt j (withBytes (rowAt b j) (take (length (rowAt b j .f2) - n) (rowAt b j .f2))) (rowsOf b))
+
+-- row r can get a field 1 of k bytes: it has nothing behind field 2, and the capacity has room for it beside the old one
+pub record Respelling (b : List ℕ) (r k : ℕ) : Type 0 where
+  pub at : r < countOf b
+  pub last : rowAt b r .f3 ≡ []
+  pub kept : 0 < length (rowAt b r .f0)
+  pub fits : usedOf b + k ≤ capOf b

@@ -7,9 +7,9 @@ use Prim.Native.Nat.{ℕ, _+_, _-_, _^_, _≤_, _<_}
 use lib.ListN.{length, getD}
 use Rattle.base.specs.Buffer.{part, splice}
 use Rattle.store.specs.Buffer.{le4}
-use Rattle.store.specs.Layout.{heapStart, heapSize, formatOf, capOf, countOf, usedOf, endOf, slotAt, slotOf, offOf, sizeOf}
-use Rattle.store.specs.Rows.{rowAt, rowsOf, fieldOf}
-use Rattle.store.specs.Packages.{Sound}
+use Rattle.store.specs.Layout.{headerSize, heapStart, heapSize, formatOf, capOf, countOf, usedOf, endOf, slotAt, slotOf, offOf, sizeOf}
+use Rattle.store.specs.Rows.{rowAt, rowsOf, fieldOf, replaceAt, respelled}
+use Rattle.store.specs.Packages.{Sound, Became, Passing, passed, Respelling}
 
 -- the m bytes from a on are the n bytes from `at` on, or none where the buffer has not so many
 pub record Spanned (b : List ℕ) (at n a m : ℕ) : Type 0 where
@@ -53,11 +53,63 @@ carried b a q c = splice b (heapStart + (c - q)) (part (heapStart + a) q b)
 pub record Carried (b m : List ℕ) (a q c o x : ℕ) : Type 0 where
   pub is : ((o ≡ a + q) × (x ≡ q) × (m ≡ b)) ⊎ ((x ≡ 0) × (m ≡ carried b a q c))
 
--- m is b with its rows' bytes gathered or left where they were, so that k bytes more, if the capacity has them, fit at `at`
+-- m is b with its rows' bytes gathered or left where they were; k bytes more fit at `at`, or there is no gap
 pub record Placed (b m : List ℕ) (k at : ℕ) : Type 0 where
   pub sound : Sound m
   pub rows : rowsOf m ≡ rowsOf b
   pub cap : capOf m ≡ capOf b
   pub format : formatOf m ≡ formatOf b
   pub end : at ≡ endOf m
-  pub fits : usedOf b + k ≤ capOf b → at + k ≤ heapSize m
+  pub close : (at + k ≤ heapSize m) ⊎ (at ≡ usedOf m)
+
+-- the slot z tells what the slot s tells, but an offset at c or above is k lower
+pub record Shifted (s z : List ℕ) (c k : ℕ) : Type 0 where
+  pub same : part 4 20 z ≡ part 4 20 s
+  pub low : offOf s < c → offOf z ≡ offOf s
+  pub high : c ≤ offOf s → offOf z + k ≡ offOf s
+
+-- m is b with the offsets at c or above, of the first n rows, k lower
+pub record Lowered (b m : List ℕ) (n c k : ℕ) : Type 0 where
+  pub slots : (i : ℕ) → i < n → Shifted (slotOf b i) (slotOf m i) c k
+  pub rest : (a l : ℕ) → (a + l ≤ headerSize) ⊎ (heapStart ≤ a) → a + l ≤ length b → part a l m ≡ part a l b
+
+-- m is b with the k bytes at x of the heap, which ended at e, now at its end. What lay behind them lies d lower: k, or 0 where the end had room
+-- for them and for `more` bytes
+pub record Sent (b m : List ℕ) (n e x k more d : ℕ) : Type 0 where
+  pub few : d ≤ k
+  pub room : (d ≡ k) ⊎ (e + k + more ≤ heapSize b)
+  pub kind : part 0 20 m ≡ part 0 20 b
+  pub end : endOf m + d ≡ e + k
+  pub slots : (i : ℕ) → i < n → Shifted (slotOf b i) (slotOf m i) (x + k) d
+  pub below : (a l : ℕ) → a + l ≤ x → part (heapStart + a) l m ≡ part (heapStart + a) l b
+  pub above : (a l : ℕ) → x + k ≤ a → a + l ≤ e → part (heapStart + (a - d)) l m ≡ part (heapStart + a) l b
+  pub sent : part (heapStart + (e - d)) k m ≡ part (heapStart + x) k b
+
+-- m is b with the bytes of row r behind those of all others
+pub record Last (b m : List ℕ) (r : ℕ) : Type 0 where
+  pub became : Became b m (rowsOf b)
+  pub end : offOf (slotOf m r) + sizeOf (slotOf m r) ≡ endOf m
+
+-- k bytes more fit behind the end
+abbrev pub Fitting : List ℕ → ℕ → Type 0
+Fitting m k = endOf m + k ≤ heapSize m
+
+-- or the rows lie without a gap
+abbrev pub Close : List ℕ → ℕ → Type 0
+Close m k = Fitting m k ⊎ (endOf m ≡ usedOf m)
+
+-- if the slot of row r, one of n, says s bytes, they now lie last, and k bytes fit behind them or there is no gap
+pub record RowSent (b m : List ℕ) (n r s k : ℕ) : Type 0 where
+  pub is : Sound b → n ≡ countOf b → r < n → s ≡ sizeOf (slotOf b r) → Close b (s + k) → Last b m r × Close m k
+
+pub record Brought (b m : List ℕ) (r k : ℕ) : Type 0 where
+  pub is : Sound b → Last b m r × Close m k
+
+-- if the bytes of row i, one of n rows that use u bytes, lie last, the k bytes were passed on to it
+pub record PassedBack (b m : List ℕ) (n u j i k : ℕ) : Type 0 where
+  pub is : Sound b → n ≡ countOf b → u ≡ usedOf b → offOf (slotOf b i) + sizeOf (slotOf b i) ≡ endOf b → Close b k → Passing b j i k → Became b m (passed b j i k)
+
+-- if the bytes of row r, one of n rows that use u bytes, lie last, and the new ones fit, it has the tag t and the field s
+pub record RespelledBack (b m : List ℕ) (n u r t : ℕ) (s : List ℕ) : Type 0 where
+  pub is : Sound b → n ≡ countOf b → u ≡ usedOf b → offOf (slotOf b r) + sizeOf (slotOf b r) ≡ endOf b → Respelling b r (length s) → Fitting b (length s)
+      → Became b m (replaceAt r (respelled (rowAt b r) t s) (rowsOf b))

@@ -63,6 +63,18 @@ insertAt r x l = take r l ++ (x ∷ drop r l)
 unfoldable pub removeAt : ℕ → List Row → List Row
 removeAt r l = take r l ++ drop (r + 1) l
 
+-- with x in the place of row r
+unfoldable pub replaceAt : ℕ → Row → List Row → List Row
+replaceAt r x l = take r l ++ (x ∷ drop (r + 1) l)
+
+-- the row with other bytes in field 2
+abbrev pub withBytes : Row → List ℕ → Row
+withBytes x c = makeRow (x .tag) (x .f0) (x .f1) c (x .f3)
+
+-- the row with another tag and another field 1
+abbrev pub respelled : Row → ℕ → List ℕ → Row
+respelled x t s = makeRow t (x .f0) s (x .f2) (x .f3)
+
 -- the bytes of a row's fields, and of all rows'
 abbrev pub rowSize : Row → ℕ
 rowSize x = length (x .f0) + (length (x .f1) + (length (x .f2) + length (x .f3)))

@@ -4,6 +4,7 @@ use crate::END_AT;
 use crate::HEADER_SIZE;
 use crate::HEAP_START;
 use crate::SLOT_SIZE;
+use crate::USED_AT;
 use crate::bytes::get4;
 use crate::bytes::put4;
 use crate::order::is_ordered;
@@ -110,7 +111,7 @@ fn compact(pkg: &mut [u8])
     gather_each(pkg, n, e);
 }
 
-// Where the heap has room for k bytes more: at its end, once the rows are gathered if they must be.
+// Where the heap has room for k bytes more: at its end, once the rows are gathered if they must be. Where the end is the bytes in use, there is no gap.
 pub(crate) fn free_place(pkg: &mut [u8], k: usize) -> usize
     requires { ⌜ Shape (now pkg) ⌝ }
     requires { ⌜ k < 2 ^ 32 ⌝ }
@@ -118,6 +119,9 @@ pub(crate) fn free_place(pkg: &mut [u8], k: usize) -> usize
 {
     let e = get4(pkg, END_AT);
     if e + k <= heap_size(pkg) {
+        return e;
+    }
+    if e == get4(pkg, USED_AT) {
         return e;
     }
     compact(pkg);

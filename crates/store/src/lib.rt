@@ -1,5 +1,7 @@
 // Rows in one lent buffer: how a package is stored.
 pub mod bytes;
+pub mod changes;
+mod ends;
 pub mod header;
 mod heap;
 mod order;
