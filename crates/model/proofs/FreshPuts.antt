@@ -8,19 +8,15 @@ use mathlib.Core.Option.{none, some}
 use native.Mathlib.Omega.{arith}
 use lib.Dec.{eqb}
 use lib.ListN.{length, take}
-use lib.Seq.{take-length}
 use borrow.Author.Tests.{not-false}
 use Rattle.chars.specs.Folding.{equivalent}
 use Rattle.chars.proofs.Equivalence.{equivalent-fold, equivalent-sym, equivalent-refl}
 use Rattle.names.specs.Names.{partName, extensionAt}
-use Rattle.names.specs.Items.{itemName, itemRefusal}
 use Rattle.names.specs.declared.items.Suffix.{Suffix}
 use Rattle.names.specs.declared.items.Suffix.the-variants.{Whole, Piece}
-use Rattle.names.specs.declared.items.ItemName.{ItemName}
-use Rattle.names.specs.declared.items.ItemName.the-variants.{Named, Refused}
 use Rattle.output.specs.Answers.{Answer, Text, filled}
 use Rattle.model.specs.Sets.{Bytes, Key, before, sameKey, any, filter, lookup, insert, Each}
-use Rattle.model.specs.Fields.{first, prefixOf, suffixOf, itemField, overrideFields}
+use Rattle.model.specs.Fields.{first, prefixOf, suffixOf, whole, overrideFields}
 use Rattle.model.specs.Package.{Item, Default, Override, State, itemKind, defaultKind, overrideKind, itemKey, nameKey, keyOfItem}
 use Rattle.model.specs.Package.{keyOfDefault, keyOfOverride, rank, group, isPart, content, disagrees, extensionOf, mediaTypeOf}
 use Rattle.model.specs.Calls.{PutItem, Print, ReadPart, MediaType, printed, changed, changeMade, change, putRefusal, putIn, misfits, putItemRefusal, putDefaultRefusal, putOverrideRefusal}
@@ -29,7 +25,7 @@ use Rattle.base.proofs.Bools.{not-passing}
 use Rattle.model.proofs.Lists.{each-both, any-filter-none, filter-none}
 use Rattle.model.proofs.Refusals.{all-none, unmet, changed-done, changed-accepted}
 use Rattle.model.proofs.Puts.{put-fields, put-free, put-own, put-found}
-use Rattle.model.proofs.ItemNames.{prefix-named, suffix-named, prefix-part, refused-number, accepted-prefix}
+use Rattle.model.proofs.ItemNames.{whole-prefix, accepted-prefix}
 use Rattle.model.proofs.Items.{one-item-key}
 use Rattle.model.proofs.Groups.{alike}
 
@@ -134,14 +130,7 @@ module _ (S : State) (name bytes : Bytes) (w : suffixOf name ≡ Whole) (h : put
 
   -- its prefix is its whole name
   itself : prefixOf name ≡ name
-  unfolding putItemRefusal itemField
-  itself = go (itemName name) refl (all-none _ (all-none _ h .0) .0)
-    where
-      go : (m : ItemName) → itemName name ≡ m → itemRefusal m ≡ 0 → prefixOf name ≡ name
-      go (Named n x) e f =
-          prefix-named name n x e ∙ ap (λ (k : ℕ). take k name) (prefix-part name n x e .2 (sym (suffix-named name n x e) ∙ w))
-          ∙ take-length name
-      go (Refused k) e f = absurd (refused-number name k e f)
+  itself = whole-prefix name (ap whole w)
 
   group-new : group name (changeMade S (PutItem name bytes) .items) ≡ (record { name = name; bytes = bytes }) ∷ []
   unfolding group

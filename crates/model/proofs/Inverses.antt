@@ -10,7 +10,7 @@ use Rattle.model.specs.Sets.{held, lookup, insert, remove, Each}
 use Rattle.model.specs.Fields.{when, suffixOf, last, extensionField, partField, sourceField, idField, defaultFields, overrideFields, relationshipFields}
 use Rattle.model.specs.Package.{Item, Default, Override, Relationship, State, itemAt, sameLast, Kind, itemKind, defaultKind, overrideKind, relationshipKind, keyOfItem}
 use Rattle.model.specs.Calls.{Change, PutItem, DropItem, PutDefault, DropDefault, PutOverride, DropOverride, PutRelationship}
-use Rattle.model.specs.Calls.{DropRelationship, done, changed, change, changeRefusal, changeMade, putRefusal, dropRefusal, putIn}
+use Rattle.model.specs.Calls.{DropRelationship, JoinPart, done, changed, change, changeRefusal, changeMade, putRefusal, dropRefusal, putIn}
 use Rattle.model.specs.Calls.{takenOut, misfits, putItemRefusal, putDefaultRefusal, putOverrideRefusal, putRelationshipRefusal}
 use Rattle.model.specs.Calls.{dropItemRefusal, dropDefaultRefusal, dropOverrideRefusal, dropRelationshipRefusal}
 use Rattle.model.specs.Demand.{dropOf, IsPut}
@@ -83,3 +83,4 @@ undone S (PutRelationship source id type mode target) p h =
     undo relationshipKind relationship-lawful S new [] h (DropRelationship source id)
     (drop-met relationshipKind relationship-lawful S new [] h (sourceField source ∷ idField id ∷ []) (f .0, (f .1 .0, tt))) refl
 undone S (DropRelationship source id) p h = absurd p
+undone S (JoinPart name) p h = absurd p

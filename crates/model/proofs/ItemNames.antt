@@ -2,11 +2,12 @@
 -- Assumes nothing.
 use Prim.Native.Nat.{ℕ, _-_, _≤_, _<_}
 use mathlib.Core.Path.{_≡_, refl, ap, sym, _∙_}
-use mathlib.Core.Bool.{Bool, true, false}
+use mathlib.Core.Bool.{Bool, true, false, true≢false}
 use native.Mathlib.Omega.{arith}
 use lib.Dec.{eqb}
 use lib.ListN.{length, getD, take}
 use lib.Seq.{take-length, length-take-le}
+use Rattle.base.proofs.Lists.{length-take-le-length}
 use Rattle.chars.specs.Bytes.{slash, openBracket}
 use Rattle.chars.specs.Lists.{afterLast}
 use Rattle.chars.proofs.Searches.{last-le}
@@ -17,7 +18,7 @@ use Rattle.names.specs.declared.items.Suffix.the-variants.{Whole, Piece}
 use Rattle.names.specs.declared.items.ItemName.{ItemName}
 use Rattle.names.specs.declared.items.ItemName.the-variants.{Named, Refused}
 use Rattle.model.specs.Sets.{Bytes, Each}
-use Rattle.model.specs.Fields.{prefixIn, suffixIn, prefixOf, suffixOf, itemField}
+use Rattle.model.specs.Fields.{prefixIn, suffixIn, prefixOf, suffixOf, whole, itemField}
 use Rattle.model.specs.Package.{Item, State, itemKind}
 use Rattle.model.specs.Good.{Good}
 use Rattle.model.proofs.Lists.{each-map}
@@ -73,6 +74,27 @@ prefix-part s n x h = go (eqb (afterLast slash s) 0) (eqb (getD (lastSegment s) 
     go true b f = absurd (named-refused n 4 x (sym f))
     go false true f = piece (suffix (lastSegment s)) f
     go false false f = as-part (partName s) (length s) Whole (ap partName (take-length s)) (omega arith) (λ e. refl) f
+
+-- a name without a suffix is its own prefix
+pub whole-prefix : (s : Bytes) → whole (suffixOf s) ≡ true → prefixOf s ≡ s
+unfolding prefixOf
+whole-prefix s w = go (itemName s) refl
+  where
+    named-whole : (n : ℕ) (x : Suffix) → itemName s ≡ Named n x → whole x ≡ true → prefixOf s ≡ s
+    named-whole n Whole e f = prefix-named s n Whole e ∙ ap (λ (k : ℕ). take k s) (prefix-part s n Whole e .2 refl) ∙ take-length s
+    named-whole n (Piece k l) e f = absurd (true≢false (sym f))
+
+    go : (x : ItemName) → itemName s ≡ x → prefixOf s ≡ s
+    go (Named n x) e = named-whole n x e (ap whole (sym (suffix-named s n x e)) ∙ w)
+    go (Refused k) e = ap (λ (m : ItemName). prefixIn m s) e
+
+pub prefix-short : (s : Bytes) → length (prefixOf s) ≤ length s
+unfolding prefixOf
+prefix-short s = go (itemName s)
+  where
+    go : (x : ItemName) → length (prefixIn x s) ≤ length s
+    go (Named n x) = length-take-le-length n s
+    go (Refused k) = omega arith
 
 -- no refusal number is 0
 pub refused-number : (s : Bytes) (k : ℕ) → itemName s ≡ Refused k → k ≡ 0 → ⊥

@@ -1,5 +1,6 @@
 pub mod Bools
 pub mod Lists
+pub mod Appends
 pub mod Walks
 pub mod KeyOrders
 pub mod Sets
@@ -15,6 +16,15 @@ pub mod Items
 pub mod KindLaws
 pub mod Charges
 pub mod Puts
+pub mod Spans
+pub mod Groups
+pub mod Exchanges
+pub mod Pieces
+pub mod PieceBytes
+pub mod Wholes
+pub mod CutRefusals
+pub mod Cutting
+pub mod CutRuns
 pub mod Steps
 pub mod Kept
 pub mod CallLists
@@ -22,11 +32,11 @@ pub mod Contents
 pub mod Joins
 pub mod Lengths
 pub mod Targets
-pub mod Spans
-pub mod Groups
 pub mod Parts
+pub mod GroupAnswers
 pub mod Inverses
 pub mod Demands
+pub mod CuttingDemands
 pub mod Neighbours
 pub mod Slashes
 pub mod FreshPuts

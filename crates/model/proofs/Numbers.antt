@@ -1,4 +1,4 @@
--- Every refusal of the ledger has a number of document 01, other than 1.
+-- Every refusal of the ledger has a number of document 01 or 02, other than 1.
 -- Assumes nothing.
 use Prim.Native.Nat.{ℕ, _≤_}
 use mathlib.Core.Bool.{Bool, true, false, not, _&&_, cond}
@@ -7,7 +7,7 @@ use mathlib.Core.Option.{Option}
 use native.Mathlib.Omega.{arith}
 use lib.Dec.{leb, eqb}
 use lib.ListN.{length, getD}
-use Rattle.chars.specs.Bytes.{ascii, slash, openBracket}
+use Rattle.chars.specs.Bytes.{ascii, slash, openBracket, within}
 use Rattle.chars.specs.Lists.{afterLast, same}
 use Rattle.names.specs.Names.{partName, reserved, lastSegment, folder}
 use Rattle.names.specs.Items.{suffix, named, asPiece, asItem, unlessNoSlash, itemName, itemRefusal}
@@ -21,14 +21,15 @@ use Rattle.model.specs.Sets.{Bytes, Key, held, any, lookup, Each}
 use Rattle.model.specs.Fields.{when, first, prefixOf, suffixOf, askedField, itemField, partField, extensionField, sourceField}
 use Rattle.model.specs.Fields.{idField, packageField, targetField, defaultFields, overrideFields, relationshipFields}
 use Rattle.model.specs.Package.{Item, Default, Override, Relationship, State, Kind, itemKind, defaultKind, overrideKind}
-use Rattle.model.specs.Package.{relationshipKind, itemKey, nameKey, relationshipKey, keyOfItem, group, disagrees, grows, itemAt}
+use Rattle.model.specs.Package.{relationshipKind, itemKey, nameKey, relationshipKey, keyOfItem, group, isPart, disagrees, grows, itemAt}
+use Rattle.model.specs.Cutting.{isWhole, cutMade, overfull, cutRefusal, joinRefusal}
 use Rattle.model.specs.Calls.{Change, PutItem, DropItem, PutDefault, DropDefault, PutOverride, DropOverride, PutRelationship}
-use Rattle.model.specs.Calls.{DropRelationship, Numbered, noRoom, putRefusal, dropRefusal, misfits, clash, changeRefusal}
+use Rattle.model.specs.Calls.{DropRelationship, JoinPart, Numbered, noRoom, putRefusal, dropRefusal, misfits, clash, changeRefusal}
 use Rattle.model.specs.Calls.{askedRefusal, putItemRefusal, putDefaultRefusal, putOverrideRefusal, putRelationshipRefusal}
 use Rattle.model.specs.Calls.{dropItemRefusal, dropDefaultRefusal, dropOverrideRefusal, dropRelationshipRefusal}
 use Rattle.model.proofs.Lists.{each-append}
 
-pub numbered : (n : ℕ) → 2 ≤ n → n ≤ 16 → Numbered n
+pub numbered : (n : ℕ) → 2 ≤ n → n ≤ 18 → Numbered n
 numbered n h q = (q, λ e. omega arith)
 
 pub zero-numbered : Numbered 0
@@ -38,7 +39,7 @@ cond-numbered : (b : Bool) (m n : ℕ) → Numbered m → Numbered n → Numbere
 cond-numbered true m n h k = h
 cond-numbered false m n h k = k
 
-pub when-numbered : (b : Bool) (n : ℕ) → 2 ≤ n → n ≤ 16 → Numbered (when b n)
+pub when-numbered : (b : Bool) (n : ℕ) → 2 ≤ n → n ≤ 18 → Numbered (when b n)
 when-numbered b n h q = cond-numbered b n 0 (numbered n h q) zero-numbered
 
 pub all-numbered : (ns : List ℕ) → Each (λ (n : ℕ). Numbered n) ns → Numbered (first ns)
@@ -163,6 +164,35 @@ relationship-numbered r =
       ),
     )
 
+-- a cut and a join
+pub cut-numbered : (S : State) (s : Bytes) (n : ℕ) → Numbered (cutRefusal S s n)
+unfolding cutRefusal
+cut-numbered S s n =
+    all-numbered _ (
+      part-field-numbered s,
+      (
+        when-numbered (not (isPart (group s (S .items)))) 13 (omega arith) (omega arith),
+        (
+          when-numbered (not (isWhole (group s (S .items)))) 18 (omega arith) (omega arith),
+          (
+            when-numbered (not (within 1 256 n)) 17 (omega arith) (omega arith),
+            (when-numbered (overfull (cutMade S s n)) 15 (omega arith) (omega arith), tt),
+          ),
+        ),
+      ),
+    )
+
+pub join-numbered : (S : State) (s : Bytes) → Numbered (joinRefusal S s)
+unfolding joinRefusal
+join-numbered S s =
+    all-numbered _ (
+      part-field-numbered s,
+      (
+        when-numbered (not (isPart (group s (S .items)))) 13 (omega arith) (omega arith),
+        (when-numbered (isWhole (group s (S .items))) 18 (omega arith) (omega arith), tt),
+      ),
+    )
+
 pub change-numbered : (S : State) (c : Change) → Numbered (changeRefusal S c)
 unfolding putItemRefusal dropItemRefusal putDefaultRefusal dropDefaultRefusal putOverrideRefusal dropOverrideRefusal
     putRelationshipRefusal dropRelationshipRefusal
@@ -178,6 +208,7 @@ change-numbered S (PutRelationship s i v m t) =
 change-numbered S (DropRelationship s i) =
     drop-numbered relationshipKind S (sourceField s ∷ idField i ∷ []) (relationshipKey s i)
     (source-field-numbered s, (eight (not (identifier i)), tt))
+change-numbered S (JoinPart s) = join-numbered S s
 
 -- the fields of a resolution, and of a stream's source
 pub resolve-fields-numbered : (s i base : Bytes) → Numbered (first (sourceField s ∷ idField i ∷ packageField base ∷ []))

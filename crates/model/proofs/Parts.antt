@@ -1,9 +1,9 @@
 -- The groups and the parts of a sorted list of items, one after the other in folded order.
 -- Assumes nothing.
-use Prim.Native.Nat.{ℕ, zero, suc, _≤_}
+use Prim.Native.Nat.{ℕ, zero, suc, _≤_, _<_}
 use mathlib.Core.Path.{_≡_, refl, ap, ap₂, sym, _∙_, subst}
 use mathlib.Core.Bool.{true, false, not, cond, true≢false}
-use mathlib.Core.List.{List, [], _∷_, _++_, map}
+use mathlib.Core.List.{List, [], _∷_, _++_, map, append-nil, map-append}
 use native.Mathlib.Omega.{arith}
 use lib.ListN.{length, take, drop, take-append-drop, length-drop, length-map}
 use Rattle.chars.specs.Folding.{fold, equivalent, order}
@@ -17,9 +17,11 @@ use Rattle.model.specs.Package.{Item, State, keyOfItem, group, isPart, s
 use Rattle.model.specs.Good.{Good}
 use Rattle.base.proofs.Bools.{not-passing}
 use Rattle.model.proofs.Lists.{each-map, each-both, each-drop, pairs-drop, map-each, filter-append, filter-all, filter-none, filter-filter, each-filter, pairs-filter, length-filter}
+use Rattle.model.proofs.Appends.{each-swap}
 use Rattle.model.proofs.Walks.{lead-take}
 use Rattle.model.proofs.KeyOrders.{begins-less}
 use Rattle.model.proofs.ItemNames.{accepted-prefix}
+use Rattle.model.proofs.Items.{equivalent-comm}
 use Rattle.model.proofs.Groups.{alike, unlike, own, alike-same, group-past, group-from}
 
 pub each-leaders : (P : Item → Type 0) (xs : List Item) → Each P xs → Each P (leaders xs)
@@ -103,6 +105,77 @@ module _ (x : Item) (ys : List Item) (s : Sorted keyOfItem (x ∷ ys)) where
       (parts (behind x ys))
   unfolding parts filter
   parts-run = ap (filter isPart) groups-run
+
+-- PARTS OF TWO LISTS that share no group are the parts of the one, then of the other
+module _ (ys : List Item) where
+  abbrev pub Strange : Item → Type 0
+  Strange i = Each (λ (j : Item). alike (prefixOf (i .name)) j ≡ false) ys
+
+  leaders-append : (xs : List Item) → Each Strange xs → leaders (xs ++ ys) ≡ leaders xs ++ leaders ys
+  unfolding leaders
+  leaders-append [] h = refl
+  leaders-append (x ∷ xs) h =
+      let other = unlike (prefixOf (x .name)) in
+      ap (λ (l : List Item). x ∷ l)
+      (ap (filter other) (leaders-append xs (h .1))
+      ∙ filter-append other (leaders xs) (leaders ys)
+      ∙ ap (λ (l : List Item). filter other (leaders xs) ++ l)
+      (filter-all other (leaders ys)
+      (each-map (λ (i : Item). alike (prefixOf (x .name)) i ≡ false) (λ (i : Item). other i ≡ true) (leaders ys) (λ i e. ap not e)
+      (each-leaders (λ (i : Item). alike (prefixOf (x .name)) i ≡ false) ys (h .0)))))
+
+  module _ (xs : List Item) (h : Each Strange xs) where
+    groups-append : groups (xs ++ ys) ≡ groups xs ++ groups ys
+    unfolding group
+    groups-append =
+        ap (map (of (xs ++ ys))) (leaders-append xs h)
+        ∙ map-append (of (xs ++ ys)) (leaders xs) (leaders ys)
+        ∙ ap₂ _++_ (map-each (of (xs ++ ys)) (of xs) (leaders xs) (each-leaders (Same xs) xs (each-map Strange (Same xs) xs left h)))
+        (map-each (of (xs ++ ys)) (of ys) (leaders ys)
+        (each-leaders (Same ys) ys
+        (each-map (λ (j : Item). Each (λ (i : Item). alike (prefixOf (i .name)) j ≡ false) xs) (Same ys) ys right
+        (each-swap (λ (i j : Item). alike (prefixOf (i .name)) j ≡ false) xs ys h))))
+      where
+        of : List Item → Item → List Item
+        of l i = group (prefixOf (i .name)) l
+
+        Same : List Item → Item → Type 0
+        Same l i = of (xs ++ ys) i ≡ of l i
+
+        left : (i : Item) → Strange i → Same xs i
+        left i k =
+            filter-append (alike (prefixOf (i .name))) xs ys
+            ∙ ap (λ (l : List Item). of xs i ++ l) (filter-none (alike (prefixOf (i .name))) ys k) ∙ append-nil (of xs i)
+
+        right : (j : Item) → Each (λ (i : Item). alike (prefixOf (i .name)) j ≡ false) xs → Same ys j
+        right j k =
+            filter-append (alike (prefixOf (j .name))) xs ys
+            ∙ ap (λ (l : List Item). l ++ of ys j)
+            (filter-none (alike (prefixOf (j .name))) xs
+            (each-map (λ (i : Item). alike (prefixOf (i .name)) j ≡ false) (λ (i : Item). alike (prefixOf (j .name)) i ≡ false) xs
+            (λ i e. equivalent-comm (prefixOf (i .name)) (prefixOf (j .name)) ∙ e) k))
+
+    pub parts-append : parts (xs ++ ys) ≡ parts xs ++ parts ys
+    unfolding parts
+    parts-append = ap (filter isPart) groups-append ∙ filter-append isPart (groups xs) (groups ys)
+
+-- a list of one group
+pub one-part : (p : Bytes) (g : List Item) → 0 < length g → Each (λ (i : Item). alike p i ≡ true) g → isPart g ≡ true → parts g ≡ g ∷ []
+unfolding parts leaders group filter
+one-part p [] n h e = absurd (omega arith)
+one-part p (x ∷ g) n h e =
+    ap (λ (l : List Item). filter isPart (map (λ (i : Item). group (prefixOf (i .name)) (x ∷ g)) (x ∷ l)))
+    (filter-none (unlike (prefixOf (x .name))) (leaders g)
+    (each-leaders (λ (i : Item). unlike (prefixOf (x .name)) i ≡ false) g
+    (each-map (λ (i : Item). alike (prefixOf (x .name)) i ≡ true) (λ (i : Item). unlike (prefixOf (x .name)) i ≡ false) g
+    (λ i k. ap not k) (own-group .1))))
+    ∙ ap (λ (l : List Item). filter isPart (l ∷ [])) (filter-all (alike (prefixOf (x .name))) (x ∷ g) own-group)
+    ∙ rw e
+  where
+    own-group : Each (λ (i : Item). alike (prefixOf (x .name)) i ≡ true) (x ∷ g)
+    own-group =
+        each-map (λ (i : Item). alike p i ≡ true) (λ (i : Item). alike (prefixOf (x .name)) i ≡ true) (x ∷ g)
+        (λ i k. alike-same (prefixOf (x .name)) p (equivalent-fold (prefixOf (x .name)) p (h .0)) i ∙ k) h
 
 -- what holds of every item's prefix holds of every group's spelling (f bounds the length)
 pub groups-each :

@@ -7,6 +7,7 @@ use mathlib.Core.List.{List, [], _∷_, _++_}
 use native.Mathlib.Omega.{arith}
 use lib.Dec.{eqb, leb, ltb}
 use borrow.Author.Tests.{eqb-true, eqb-false, leb-false, ltb-false, eq-eqb, ne-eqb}
+use Rattle.output.specs.Answers.{Answer}
 use Rattle.model.specs.Sets.{Each}
 use Rattle.model.specs.Fields.{when, first}
 use Rattle.model.specs.Good.{Good}
@@ -76,21 +77,32 @@ room-charge limit count added S e =
 pub room-count : (limit count added : ℕ) (S : State) → noRoom limit count added S ≡ false → count < limit
 room-count limit count added S e = leb-false limit count (or-false-left (leb limit count) (ltb (S .capacity) (charge S + added)) e)
 
--- a change keeps a package good if it does where nothing is refused
-pub changed-good : (n : ℕ) (S T : State) → Good S → (n ≡ 0 → Good T) → Good (changed n S T .1)
-changed-good n S T g h = go (eqb n 0) refl
-  where
-    go : (b : Bool) → eqb n 0 ≡ b → Good ((pick b (done, T) (refused n, S)) .1)
-    go true e = h (eqb-true n 0 e)
-    go false e = g
+-- a call that the number n refuses, unless it is 0: what holds of S, and of T where nothing is refused, holds of the package after it
+module _ (n : ℕ) (S T : State) where
+  pub picked : (P : State → Type 0) (a r : Answer) → P S → (n ≡ 0 → P T) → P (pick (eqb n 0) (a, T) (r, S) .1)
+  picked P a r g h = go (eqb n 0) refl
+    where
+      go : (b : Bool) → eqb n 0 ≡ b → P (pick b (a, T) (r, S) .1)
+      go true e = h (eqb-true n 0 e)
+      go false e = g
 
-pub changed-done : (n : ℕ) (S T : State) → n ≡ 0 → changed n S T ≡ (done, T)
-changed-done n S T e = rw (eq-eqb n 0 e)
+  pub picked-done : (a r : Answer) → n ≡ 0 → pick (eqb n 0) (a, T) (r, S) ≡ (a, T)
+  picked-done a r e = rw (eq-eqb n 0 e)
 
--- an accepted change met no refusal
-pub changed-accepted : (n : ℕ) (S T : State) → changed n S T .0 .number ≡ 0 → n ≡ 0
-changed-accepted n S T h = go (eqb n 0) refl h
-  where
-    go : (b : Bool) → eqb n 0 ≡ b → pick b (done, T) (refused n, S) .0 .number ≡ 0 → n ≡ 0
-    go true e k = eqb-true n 0 e
-    go false e k = k
+  -- accepted, it met no refusal
+  pub picked-accepted : (a r : Answer) → r .number ≡ n → pick (eqb n 0) (a, T) (r, S) .0 .number ≡ 0 → n ≡ 0
+  picked-accepted a r f h = go (eqb n 0) refl h
+    where
+      go : (b : Bool) → eqb n 0 ≡ b → pick b (a, T) (r, S) .0 .number ≡ 0 → n ≡ 0
+      go true e k = eqb-true n 0 e
+      go false e k = sym f ∙ k
+
+  -- a change is such a call
+  pub changed-good : Good S → (n ≡ 0 → Good T) → Good (changed n S T .1)
+  changed-good = picked Good done (refused n)
+
+  pub changed-done : n ≡ 0 → changed n S T ≡ (done, T)
+  changed-done = picked-done done (refused n)
+
+  pub changed-accepted : changed n S T .0 .number ≡ 0 → n ≡ 0
+  changed-accepted = picked-accepted done (refused n) refl

@@ -3,7 +3,7 @@
 use Prim.Native.Nat.{ℕ, suc, _+_, _≤_}
 use mathlib.Core.Path.{_≡_, refl, ap}
 use mathlib.Core.Bool.{Bool, true, false, cond, true≢false}
-use mathlib.Core.List.{List, [], _∷_}
+use mathlib.Core.List.{List, [], _∷_, _++_}
 use mathlib.Core.Option.{some}
 use native.Mathlib.Omega.{arith}
 use lib.ListN.{length}
@@ -28,6 +28,19 @@ module _ {E : Type 0} (key : E → Key) where
       go true e h k = absurd (true≢false h)
       go false e h k = (e, k h)
 
+  -- WHERE IT STANDS: before all others, or behind those that it is not before
+  pub insert-front : (e : E) (xs : List E) → Each (λ (x : E). before (key e) (key x) ≡ true) xs → insert key e xs ≡ e ∷ xs
+  unfolding insert
+  insert-front e [] h = refl
+  insert-front e (x ∷ xs) h = rw (h .0)
+
+  pub insert-past : (e : E) (xs ys : List E) → Each (λ (x : E). before (key e) (key x) ≡ false) xs →
+      insert key e (xs ++ ys) ≡ xs ++ insert key e ys
+  unfolding insert
+  insert-past e [] ys h = refl
+  insert-past e (x ∷ xs) ys h = rw (h .0) (ap (λ (l : List E). x ∷ l) (insert-past e xs ys (h .1)))
+
+  -- WHAT IT KEEPS
   pub each-insert : (P : E → Type 0) (e : E) (xs : List E) → P e → Each P xs → Each P (insert key e xs)
   unfolding insert
   each-insert P e [] p a = (p, tt)

@@ -9,22 +9,24 @@ use lib.Dec.{ltb}
 use lib.ListN.{length}
 use borrow.Author.Tests.{ltb-false}
 use Rattle.chars.specs.Folding.{equivalent}
-use Rattle.model.specs.Sets.{Key, sameKey, sumOf, insert, remove, Each, AllPairs}
+use Rattle.model.specs.Sets.{Bytes, Key, sameKey, sumOf, insert, remove, Each, AllPairs}
 use Rattle.model.specs.Fields.{prefixOf, suffixOf}
 use Rattle.model.specs.Package.{Item, State, Kind, itemKind, defaultKind, overrideKind, relationshipKind, empty, charge, group, disagrees, grows, itemKey, nameKey, relationshipKey, keyOfItem}
-use Rattle.model.specs.Calls.{Call, Start, Looks, Changes, Prints, capacityLimit, overhead, startRefusal, step, after, Change}
+use Rattle.model.specs.Cutting.{cutMade, cutRefusal}
+use Rattle.model.specs.Calls.{Call, Start, Looks, Changes, CutPart, Prints, capacityLimit, overhead, startRefusal, cut, step, after, Change}
 use Rattle.model.specs.Calls.{PutItem, DropItem, PutDefault, DropDefault, PutOverride, DropOverride, PutRelationship}
-use Rattle.model.specs.Calls.{DropRelationship, putRefusal, putIn, takenOut, misfits, changeRefusal, changeMade, change}
+use Rattle.model.specs.Calls.{DropRelationship, JoinPart, putRefusal, putIn, takenOut, misfits, changeRefusal, changeMade, change}
 use Rattle.model.specs.Calls.{putItemRefusal, putDefaultRefusal, putOverrideRefusal, putRelationshipRefusal}
 use Rattle.model.specs.Good.{GoodSet, Beside, Good}
 use Rattle.base.proofs.Bools.{or-false-left}
 use Rattle.model.proofs.Lists.{each-map, each-both, any-none, any-filter-none}
 use Rattle.model.proofs.Sets.{Absent, each-insert, pairs-insert, sorted-insert, each-remove, pairs-remove, sorted-remove, length-insert, length-remove}
-use Rattle.model.proofs.Refusals.{unmet, changed-good}
+use Rattle.model.proofs.Refusals.{unmet, picked, changed-good}
 use Rattle.model.proofs.Items.{beside-new, beside-comm}
 use Rattle.model.proofs.KindLaws.{Lawful, item-lawful, default-lawful, override-lawful, relationship-lawful}
 use Rattle.model.proofs.Charges.{charge-put, charge-drop-le}
 use Rattle.model.proofs.Puts.{put-fields, put-free, put-own, put-few, put-within}
+use Rattle.model.proofs.Cutting.{cut-good, join-good}
 
 -- SETS OF A KIND
 module _ {E : Type 0} (kind : Kind E) where
@@ -122,16 +124,22 @@ made-good S (PutOverride name type) g h = put-good overrideKind override-lawful 
 made-good S (DropOverride name) g h = drop-good overrideKind override-lawful S g (nameKey name) (g .beside)
 made-good S (PutRelationship source id type mode target) g h = put-good relationshipKind relationship-lawful S g _ [] h (g .beside)
 made-good S (DropRelationship source id) g h = drop-good relationshipKind relationship-lawful S g (relationshipKey source id) (g .beside)
+made-good S (JoinPart name) g h = join-good S name g h
 
 pub change-good : (S : State) (c : Change) → Good S → Good (change S c .1)
 unfolding change
 change-good S c g = changed-good (changeRefusal S c) S (changeMade S c) g (made-good S c g)
+
+pub cut-step-good : (S : State) (name : Bytes) (n : ℕ) → Good S → Good (cut S name n .1)
+unfolding cut
+cut-step-good S name n g = picked (cutRefusal S name n) S (cutMade S name n) Good _ _ g (cut-good S name n g)
 
 -- A LIST OF CALLS
 pub step-good : (room : ℕ) (S : State) (c : Call) → Good S → Good (step room S c .1)
 step-good room S (Start C) g = changed-good (startRefusal room C) S (empty C) g (start-good room C)
 step-good room S (Looks q) g = g
 step-good room S (Changes c) g = change-good S c g
+step-good room S (CutPart name n) g = cut-step-good S name n g
 step-good room S (Prints p out) g = g
 
 pub after-good : (room : ℕ) (S : State) (cs : List Call) → Good S → Good (after room S cs)

@@ -1,4 +1,4 @@
--- What each call answers, and the package after it: document 01's ledger, call by call.
+-- What each call answers, and the package after it: document 01's ledger, call by call, and document 02's calls that join it.
 -- Assumes nothing.
 use Prim.Native.Nat.{ℕ, _+_, _≤_}
 use mathlib.Core.Path.{_≡_}
@@ -17,6 +17,7 @@ use Rattle.model.specs.Package.{Item, Default, Override, Relationship, S
 use Rattle.model.specs.Package.{overrideKind, relationshipKind, itemKey, nameKey, relationshipKey, keyOfItem, keyOfRelationship}
 use Rattle.model.specs.Package.{group, isPart, content, spelling, parts, disagrees, grows, itemAt, mediaTypeOf}
 use Rattle.model.specs.Texts.{typesText, relationshipsText}
+use Rattle.model.specs.Cutting.{quotient, rest, cutMade, joinMade, cutRefusal, joinRefusal}
 
 -- a call that only looks
 pub data Look : Type 0 where
@@ -24,7 +25,7 @@ pub data Look : Type 0 where
   View : (name : Bytes) → Look
   Totals : Look
 
--- a call that changes the package
+-- a call that changes the package and names no value
 pub data Change : Type 0 where
   PutItem : (name bytes : Bytes) → Change
   DropItem : (name : Bytes) → Change
@@ -34,6 +35,7 @@ pub data Change : Type 0 where
   DropOverride : (name : Bytes) → Change
   PutRelationship : (source id type : Bytes) (mode : ℕ) (target : Bytes) → Change
   DropRelationship : (source id : Bytes) → Change
+  JoinPart : (name : Bytes) → Change
 
 -- a call that writes into a lent output
 pub data Print : Type 0 where
@@ -50,6 +52,7 @@ pub data Call : Type 0 where
   Start : (C : ℕ) → Call
   Looks : Look → Call
   Changes : Change → Call
+  CutPart : (name : Bytes) (n : ℕ) → Call
   Prints : Print → (output : Bytes) → Call
 
 -- "An accepted call answers 0 and its value, or 0 and 0 where none is named"
@@ -60,9 +63,9 @@ done = answer 0 (0 ∷ []) []
 abbrev pub refused : ℕ → Answer
 refused n = answer n (0 ∷ []) []
 
--- "refuses by a number from document 01"; on a buffer that passes the test not by 1
+-- "refuses by a number from document 01" or document 02; on a buffer that passes the test not by 1
 abbrev pub Numbered : ℕ → Type 0
-Numbered n = (n ≤ 16) × (n ≡ 1 → ⊥)
+Numbered n = (n ≤ 18) × (n ≡ 1 → ⊥)
 
 abbrev pub pick : Bool → Answer × State → Answer × State → Answer × State
 pick true a b = a
@@ -171,6 +174,7 @@ changeRefusal S (PutOverride name type) = putOverrideRefusal S name type
 changeRefusal S (DropOverride name) = dropOverrideRefusal S name
 changeRefusal S (PutRelationship source id type mode target) = putRelationshipRefusal S source id type mode target
 changeRefusal S (DropRelationship source id) = dropRelationshipRefusal S source id
+changeRefusal S (JoinPart name) = joinRefusal S name
 
 -- the package after an accepted change: "Every field keeps its given spelling."
 abbrev pub changeMade : State → Change → State
@@ -183,9 +187,17 @@ changeMade S (DropOverride name) = takenOut overrideKind S (nameKey name)
 changeMade S (PutRelationship source id type mode target) =
     putIn relationshipKind S (record { source = source; id = id; type = type; mode = mode; target = target })
 changeMade S (DropRelationship source id) = takenOut relationshipKind S (relationshipKey source id)
+changeMade S (JoinPart name) = joinMade S name
 
 unfoldable pub change : State → Change → Answer × State
 change S c = changed (changeRefusal S c) S (changeMade S c)
+
+-- a cut: "q and r .., both in the answer"
+unfoldable pub cut : State → Bytes → ℕ → Answer × State
+cut S name n =
+    pick (eqb (cutRefusal S name n) 0)
+    (answer 0 (quotient (group name (S .items)) n ∷ rest (group name (S .items)) n ∷ []) [], cutMade S name n)
+    (answer (cutRefusal S name n) (0 ∷ 0 ∷ []) [], S)
 
 -- LOOKS. An item that is asked for: its name by 6 and 4, then "13 not held"
 unfoldable pub askedRefusal : State → Bytes → ℕ
@@ -262,6 +274,7 @@ abbrev pub step : ℕ → State → Call → Answer × State
 step room S (Start C) = changed (startRefusal room C) S (empty C)
 step room S (Looks q) = (look S q, S)
 step room S (Changes c) = change S c
+step room S (CutPart name n) = cut S name n
 step room S (Prints p output) = (filled (valueCount p) output (printed S (length output) p), S)
 
 -- A LIST OF CALLS: every answer, and the package after the last. "Each call of a list is lent the package as the call before left it, in
@@ -279,4 +292,5 @@ abbrev pub lent : Call → Bytes
 lent (Start C) = []
 lent (Looks q) = []
 lent (Changes c) = []
+lent (CutPart name n) = []
 lent (Prints p output) = output

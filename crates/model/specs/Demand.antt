@@ -16,7 +16,7 @@ use Rattle.model.specs.Sets.{Bytes, sameKey, lookup, sumOf}
 use Rattle.model.specs.Fields.{suffixOf, itemField}
 use Rattle.model.specs.Package.{State, empty, itemKey, nameKey, keyOfOverride, itemCharge, defaultCharge, overrideCharge, relationshipCharge, group, isPart, parts, extensionOf}
 use Rattle.model.specs.Calls.{Call, Looks, Changes, Prints, Find, View, Totals, Change, PutItem, DropItem, PutDefault, DropDefault}
-use Rattle.model.specs.Calls.{PutOverride, DropOverride, PutRelationship, DropRelationship, ReadPart, MediaType, done, startRefusal}
+use Rattle.model.specs.Calls.{PutOverride, DropOverride, PutRelationship, DropRelationship, JoinPart, ReadPart, MediaType, done, startRefusal}
 use Rattle.model.specs.Calls.{step, after}
 use Rattle.model.specs.Good.{Good}
 
@@ -83,6 +83,7 @@ dropOf (PutOverride name type) = DropOverride name
 dropOf (DropOverride name) = DropOverride name
 dropOf (PutRelationship source id type mode target) = DropRelationship source id
 dropOf (DropRelationship source id) = DropRelationship source id
+dropOf (JoinPart name) = JoinPart name
 
 abbrev pub IsPut : Change → Type 0
 IsPut (PutItem name bytes) = Unit {0}
@@ -93,6 +94,7 @@ IsPut (PutOverride name type) = Unit {0}
 IsPut (DropOverride name) = ⊥
 IsPut (PutRelationship source id type mode target) = Unit {0}
 IsPut (DropRelationship source id) = ⊥
+IsPut (JoinPart name) = ⊥
 
 -- an accepted put, then the drop of the same: accepted, and the very package
 abbrev pub DropsUndoPuts : Type 0

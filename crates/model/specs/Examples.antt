@@ -10,10 +10,10 @@ use Rattle.chars.specs.Bytes.{ascii}
 use Rattle.output.specs.Answers.{Answer, answer}
 use Rattle.targets.specs.Targets.{resolvePath}
 use Rattle.model.specs.Sets.{Bytes}
-use Rattle.model.specs.Package.{empty}
-use Rattle.model.specs.Calls.{Call, Start, Looks, Changes, Prints, Find, Totals, PutItem, DropItem, PutDefault, PutOverride}
-use Rattle.model.specs.Calls.{PutRelationship, ReadPart, MediaType, PartAt, ResolveRelationship, WriteTypes, WriteRelationships, done}
-use Rattle.model.specs.Calls.{refused, overhead, answers}
+use Rattle.model.specs.Package.{Item, empty}
+use Rattle.model.specs.Calls.{Call, Start, Looks, Changes, CutPart, Prints, Find, Totals, PutItem, DropItem, PutDefault, PutOverride}
+use Rattle.model.specs.Calls.{PutRelationship, JoinPart, ReadPart, MediaType, PartAt, ResolveRelationship, WriteTypes, WriteRelationships, done}
+use Rattle.model.specs.Calls.{refused, overhead, answers, after}
 use Rattle.model.specs.Texts.{line}
 use Rattle.model.specs.Sheet.{sheet}
 use Rattle.model.specs.Opened.{everything}
@@ -177,3 +177,73 @@ parameters =
 pub parameters-hold : Holds parameters
 unfolding parameters everything
 parameters-hold = refl
+
+-- an item with this content
+abbrev pub puts : String → String → Call
+puts name bytes = Changes (PutItem (ascii name) (ascii bytes))
+
+abbrev pub cuts : String → ℕ → Call
+cuts name n = CutPart (ascii name) n
+
+abbrev pub joins : String → Call
+joins name = Changes (JoinPart (ascii name))
+
+-- a cut gives q and r, or is refused
+abbrev pub into : ℕ → ℕ → Answer
+into q r = answer 0 (q ∷ r ∷ []) []
+
+abbrev pub uncut : ℕ → Answer
+uncut k = answer k (0 ∷ 0 ∷ []) []
+
+-- the items that a package of 1,000 bytes holds after these calls, a line for each: its name and its bytes
+abbrev pub inventory : List Call → Bytes
+inventory cs = flatMap (λ (i : Item). i .name ++ (ascii " " ++ line (i .bytes))) (after (1000 + overhead) (empty 1000) cs .items)
+
+abbrev pub leaves : List Call → String → Row
+leaves cs wanted = text (inventory cs) (ascii wanted)
+
+-- the part's answers: read from its second byte on, its media type, the part at position 1
+abbrev pub asked : List Call
+asked = Prints (ReadPart (ascii "/TILE") 1) (ascii "........") ∷ typed "/tile" ∷ Prints (PartAt 1) (ascii "........") ∷ []
+
+abbrev pub told : List Answer
+told = answer 0 (6 ∷ []) (ascii "bcdefg..") ∷ answer 0 (3 ∷ []) (ascii "o/o.....") ∷ answer 0 (5 ∷ []) (ascii "/Tile...") ∷ []
+
+-- a part that stands between another one and an unfinished group
+abbrev pub tile : List Call
+tile = puts "/a" "x" ∷ puts "/z/[0].piece" "u" ∷ puts "/Tile" "abcdefg" ∷ Changes (PutOverride (ascii "/tilE") (ascii "o/o")) ∷ []
+
+-- document 02, 2: the pieces of 7 bytes cut into 3, in the held spelling; one piece; more pieces than bytes; no bytes. The answers of parts before
+-- a cut, after it and after the join, and the items then. Pieces in several spellings joined in that of piece 0. 4, 13, 18 and 17, and their
+-- order: 18 also where n is 0, 17 also where 257 pieces would pass C. 15 by the charge, exact and one byte less, and by the items, 256 and one
+-- more; a refused cut keeps the package
+unfoldable pub divisions : List Row
+divisions =
+    leaves (puts "/Tiles/A.png" "abcdefg" ∷ cuts "/tiles/a.PNG" 3 ∷ [])
+    "/Tiles/A.png/[0].piece abc\n/Tiles/A.png/[1].piece de\n/Tiles/A.png/[2].last.piece fg\n"
+    ∷ calls (puts "/a" "abcdefg" ∷ cuts "/A" 3 ∷ Looks Totals ∷ []) (done ∷ into 2 1 ∷ answer 0 (3 ∷ 1 ∷ 48 ∷ []) [] ∷ [])
+    ∷ calls (puts "/a" "abcdefg" ∷ cuts "/a" 1 ∷ []) (done ∷ into 7 0 ∷ [])
+    ∷ leaves (puts "/a" "abcdefg" ∷ cuts "/a" 1 ∷ []) "/a/[0].last.piece abcdefg\n"
+    ∷ calls (puts "/a" "ab" ∷ cuts "/a" 4 ∷ []) (done ∷ into 0 2 ∷ [])
+    ∷ leaves (puts "/a" "ab" ∷ cuts "/a" 4 ∷ []) "/a/[0].piece a\n/a/[1].piece b\n/a/[2].piece \n/a/[3].last.piece \n"
+    ∷ calls (puts "/a" "" ∷ cuts "/a" 2 ∷ []) (done ∷ into 0 0 ∷ [])
+    ∷ leaves (puts "/a" "" ∷ cuts "/a" 2 ∷ []) "/a/[0].piece \n/a/[1].last.piece \n"
+    ∷ calls (tile ++ (asked ++ (cuts "/tILe" 3 ∷ asked ++ (joins "/tiLE" ∷ asked))))
+    (done ∷ done ∷ done ∷ done ∷ told ++ (into 2 1 ∷ told ++ (done ∷ told)))
+    ∷ text (inventory (tile ++ (cuts "/tILe" 3 ∷ joins "/tiLE" ∷ []))) (inventory tile)
+    ∷ leaves (puts "/a" "abcdefg" ∷ cuts "/a" 1 ∷ joins "/a" ∷ []) "/a abcdefg\n"
+    ∷ leaves (puts "/t/[1].LAST.piece" "cd" ∷ puts "/T/[0].Piece" "ab" ∷ joins "/t" ∷ []) "/T abcd\n"
+    ∷ calls
+    (put "/p" ∷ put "/q/[0].piece" ∷ put "/r/[0].last.piece" ∷ cuts "/p/[0].piece" 2 ∷ cuts "/q" 2 ∷ cuts "/s" 2 ∷ cuts "/r" 2 ∷ cuts "/r" 0 ∷ cuts "/p" 0
+    ∷ cuts "/p" 257 ∷ joins "/r/[0].last.piece" ∷ joins "/q" ∷ joins "/s" ∷ joins "/p" ∷ [])
+    (done ∷ done ∷ done ∷ uncut 4 ∷ uncut 13 ∷ uncut 13 ∷ uncut 18 ∷ uncut 18 ∷ uncut 17
+    ∷ uncut 17 ∷ refused 4 ∷ refused 13 ∷ refused 13 ∷ refused 18 ∷ [])
+    ∷ ofCapacity 30 (put "/a" ∷ cuts "/a" 2 ∷ Looks Totals ∷ []) (done ∷ into 0 1 ∷ answer 0 (2 ∷ 1 ∷ 30 ∷ []) [] ∷ [])
+    ∷ ofCapacity 29 (put "/a" ∷ cuts "/a" 2 ∷ Looks Totals ∷ []) (done ∷ uncut 15 ∷ answer 0 (1 ∷ 1 ∷ 3 ∷ []) [] ∷ [])
+    ∷ ofCapacity 4000 (put "/b" ∷ cuts "/b" 256 ∷ []) (done ∷ into 0 1 ∷ [])
+    ∷ ofCapacity 4000 (put "/a" ∷ put "/b" ∷ cuts "/b" 256 ∷ []) (done ∷ done ∷ uncut 15 ∷ [])
+    ∷ []
+
+pub divisions-hold : Holds divisions
+unfolding divisions everything
+divisions-hold = refl

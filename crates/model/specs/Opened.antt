@@ -21,8 +21,9 @@ use Rattle.model.specs.Places.{firstWhere}
 use Rattle.model.specs.Fields.{first, prefixOf, suffixOf, itemField, defaultFields, overrideFields, relationshipFields}
 use Rattle.model.specs.Package.{charge, group, completeFrom, isPart, content, spelling, leaders, parts, itemAt, mediaTypeOf}
 use Rattle.model.specs.Texts.{quoted, typesText, relationshipsText}
+use Rattle.model.specs.Cutting.{isWhole, piecesFrom, pieces, withAll, cutRefusal, joinRefusal}
 use Rattle.model.specs.Calls.{startRefusal, clash, putItemRefusal, dropItemRefusal, putDefaultRefusal, dropDefaultRefusal}
-use Rattle.model.specs.Calls.{putOverrideRefusal, dropOverrideRefusal, putRelationshipRefusal, dropRelationshipRefusal, change}
+use Rattle.model.specs.Calls.{putOverrideRefusal, dropOverrideRefusal, putRelationshipRefusal, dropRelationshipRefusal, change, cut}
 use Rattle.model.specs.Calls.{askedRefusal, look, resolved, printed, answers, after}
 use Rattle.output.specs.Answers.{filled}
 use Rattle.model.specs.Sheet.{withoutEmptyEnd, lineRead, listing, shown, sheet}
@@ -38,6 +39,6 @@ unfolding digit letter hexDigit unreserved segmentByte continuation member same 
     keyOrder any filter sumOf flatMap lookup insert remove firstWhere first prefixOf suffixOf itemField defaultFields overrideFields
     relationshipFields charge group completeFrom isPart content spelling leaders parts itemAt mediaTypeOf quoted typesText
     relationshipsText startRefusal clash putItemRefusal dropItemRefusal putDefaultRefusal dropDefaultRefusal putOverrideRefusal
-    dropOverrideRefusal putRelationshipRefusal dropRelationshipRefusal change askedRefusal look resolved printed filled answers after
-    withoutEmptyEnd lineRead listing shown sheet
+    isWhole piecesFrom pieces withAll cutRefusal joinRefusal dropOverrideRefusal putRelationshipRefusal dropRelationshipRefusal
+    change cut askedRefusal look resolved printed filled answers after withoutEmptyEnd lineRead listing shown sheet
 everything = tt
