@@ -3,23 +3,27 @@
 use Prim.Native.Nat.{ℕ, _+_, _≤_}
 use mathlib.Core.Path.{_≡_, refl, ap, sym, _∙_, subst}
 use mathlib.Core.Bool.{Bool, true, false, _||_, true≢false}
-use mathlib.Core.List.{List, []}
+use mathlib.Core.List.{List, [], _∷_}
 use native.Mathlib.Omega.{arith}
 use lib.Dec.{ltb, eqb}
 use lib.ListN.{length}
 use borrow.Author.Tests.{ne-eqb, eqb-true, eqb-false}
-use Rattle.output.specs.Answers.{Answer, unanswered, filled}
+use Rattle.output.specs.Answers.{Answer, answer, unanswered, filled}
 use Rattle.output.proofs.Answering.{refusing-is}
+use Rattle.model.specs.Sets.{Bytes}
 use Rattle.model.specs.Fields.{when}
 use Rattle.model.specs.Package.{State, empty}
-use Rattle.model.specs.Calls.{Look, Find, View, Totals, Change, Print, Call, Start, Looks, Changes, Prints, done, refused, changed}
-use Rattle.model.specs.Calls.{Numbered, capacityLimit, overhead, startRefusal, look, change, changeRefusal, changeMade, printed, valueCount}
+use Rattle.model.specs.Cutting.{cutRefusal}
+use Rattle.model.specs.Calls.{Look, Find, View, Totals, Change, Print, Call, Start, Looks, Changes, CutPart, Prints, done, refused, changed}
+use Rattle.model.specs.Calls.{Numbered, capacityLimit, overhead, startRefusal, look, change, changeRefusal, changeMade, cut, printed, valueCount}
 use Rattle.model.proofs.Numbers.{zero-numbered, change-numbered}
-use Rattle.model.proofs.Steps.{change-good}
+use Rattle.model.proofs.Steps.{change-good, cut-step-good}
+use Rattle.model.proofs.CutRefusals.{cut-refused}
 use Rattle.store.specs.Packages.{isPackage}
 use Rattle.contract.specs.Holds.{Lies, Holds}
-use Rattle.contract.specs.Answers.{ofDid}
+use Rattle.contract.specs.Answers.{ofDid, ofCut}
 use Rattle.contract.specs.declared.answers.Did.the-variants.{Refused}
+use Rattle.contract.specs.declared.answers.Cut.the-variants as cuts
 use Rattle.contract.specs.Ran.{Ran, noPackage, starts}
 use Rattle.contract.specs.Opening.{Open}
 use Rattle.model.proofs.Refusals.{changed-done}
@@ -122,7 +126,33 @@ field-refused p o c n z e =
     (change-refused p o c n (subst Numbered (e (empty 0)) (change-numbered (empty 0) c))
     (λ S h. ap (λ (j : ℕ). changed j S (changeMade S c)) (e S) ∙ changed-refused n S (changeMade S c) z))
 
--- A CALL ANSWERS: its number is one of document 01's, whatever the bytes
+-- a cut whose answer and bytes are the ledger's, made or refused
+pub ran-cut : (p : List ℕ) → Open p → (name : Bytes) (n : ℕ) (a : Answer) (q : List ℕ) → length q ≡ length p → Numbered (a .number) →
+    ((a .number ≡ 0 → ⊥) → (q ≡ p) × (a .output ≡ [])) →
+    ((S : State) → Holds p S → (a ≡ cut S name n .0) × Lies q (cut S name n .1)) → Ran (CutPart name n) p a q
+ran-cut p o name n a q l u k e = record {
+  ledger = λ S h. (e S h .0, record { lies = e S h .1; good = cut-step-good S name n (h .good) });
+  kept = k;
+  foreign = λ _ f. passed p o f;
+  numbered = λ _ _. u;
+  begun = tt;
+  sized = l;
+}
+
+-- a cut that is refused before the first write
+pub ran-cut-refused : (p : List ℕ) → Open p → (name : Bytes) (n k : ℕ) → (k ≡ 0 → ⊥) → Numbered k →
+    ((S : State) → Holds p S → cutRefusal S name n ≡ k) → Ran (CutPart name n) p (ofCut (cuts.Refused k)) p
+ran-cut-refused p o name n k z u e =
+    rw (refusing-is k z (zeros k))
+    (ran-cut p o name n (zeros k) p refl u (λ _. (refl, refl)) (λ S h. rw (told S h) (refl, h .lies)))
+  where
+    zeros : ℕ → Answer
+    zeros j = answer j (0 ∷ 0 ∷ []) []
+
+    told : (S : State) → Holds p S → cut S name n ≡ (zeros k, S)
+    told S h = cut-refused S name n (λ y. z (sym (e S h) ∙ y)) ∙ ap (λ (j : ℕ). (zeros j, S)) (e S h)
+
+-- A CALL ANSWERS: its number is one of documents 01 and 02, whatever the bytes
 pub start-small : (room C : ℕ) → startRefusal room C ≤ 2
 unfolding startRefusal
 start-small room C = go (ltb capacityLimit C || ltb room (C + overhead))
@@ -137,23 +167,25 @@ foreign-small (Looks (Find name)) = omega arith
 foreign-small (Looks (View name)) = omega arith
 foreign-small (Looks Totals) = omega arith
 foreign-small (Changes c) = omega arith
+foreign-small (CutPart name n) = omega arith
 foreign-small (Prints w output) = omega arith
 
-tested : (c : Call) (p : List ℕ) (a : Answer) (q : List ℕ) → Ran c p a q → starts c ≡ false → a .number ≤ 16
+tested : (c : Call) (p : List ℕ) (a : Answer) (q : List ℕ) → Ran c p a q → starts c ≡ false → a .number ≤ 18
 tested c p a q r s = go (isPackage p) refl
   where
-    go : (t : Bool) → isPackage p ≡ t → a .number ≤ 16
+    go : (t : Bool) → isPackage p ≡ t → a .number ≤ 18
     go true e = r .numbered s e .0
     go false e = omega (arith, foreign-small c, ap (λ (x : Answer). x .number) (r .foreign s e))
 
-pub ran-number : (c : Call) (p : List ℕ) (a : Answer) (q : List ℕ) → Ran c p a q → a .number ≤ 16
+pub ran-number : (c : Call) (p : List ℕ) (a : Answer) (q : List ℕ) → Ran c p a q → a .number ≤ 18
 ran-number (Start C) p a q r = go (eqb (startRefusal (length p) C) 0) refl
   where
-    go : (t : Bool) → eqb (startRefusal (length p) C) 0 ≡ t → a .number ≤ 16
+    go : (t : Bool) → eqb (startRefusal (length p) C) 0 ≡ t → a .number ≤ 18
     go true e = omega (arith, ap (λ (x : Answer). x .number) (r .begun .0 (eqb-true (startRefusal (length p) C) 0 e) .0))
     go false e = omega (arith, start-small (length p) C, ap (λ (x : Answer). x .number) (r .begun .1 (eqb-false (startRefusal (length p) C) 0 e)))
 ran-number (Looks l) p a q r = tested (Looks l) p a q r refl
 ran-number (Changes c) p a q r = tested (Changes c) p a q r refl
+ran-number (CutPart name n) p a q r = tested (CutPart name n) p a q r refl
 ran-number (Prints w output) p a q r = tested (Prints w output) p a q r refl
 
 pub answered : (c : Call) (p : List ℕ) (a : Answer) (q : List ℕ) → Ran c p a q → a ≡ unanswered → ⊥

@@ -14,7 +14,7 @@ use Rattle.contract.specs.Rows.{RowKind, itemRows, defaultRows, override
 use Rattle.contract.specs.Holds.{Holds}
 use Rattle.contract.proofs.RowKinds.{RowLawful, item-rows, default-rows, override-rows, relationship-rows}
 
-total-append : (a b : List Row) → total (a ++ b) ≡ total a + total b
+pub total-append : (a b : List Row) → total (a ++ b) ≡ total a + total b
 unfolding total
 total-append [] b = omega arith
 total-append (x ∷ a) b = let e = total-append a b in omega arith

@@ -23,13 +23,13 @@ use Rattle.model.proofs.Places.{insert-at, remove-at, lookup-at, lookup-none, b
 use Rattle.model.proofs.Walks.{first-le}
 use Rattle.store.specs.Layout.{countOf, usedOf, capOf, slotCount}
 use Rattle.store.specs.Rows.{Row, noRow, makeRow, rowSize, rowAt, rowsOf, insertAt, removeAt}
-use Rattle.store.specs.Packages.{Sound, Room, Inserted, Removed}
+use Rattle.store.specs.Packages.{Sound, Became, Room, Inserted, Removed}
 use Rattle.store.proofs.Headers.{rows-count, row-getD}
 use Rattle.contract.specs.Rows.{defaultTag, overrideTag, setOf, keyIn, rowKey}
 use Rattle.contract.specs.Searches.{Ordered, Has, Bounded}
 use Rattle.contract.specs.Answers.{ofDid}
 use Rattle.contract.specs.declared.answers.Did.the-variants.{Refused}
-use Rattle.contract.specs.Entries.{Sought, rowCount, RowsCounted, SetFull, keyTaken, noRowRoom, rowRefusal, Roomy, Weighed, Became, Entered, Dropped}
+use Rattle.contract.specs.Entries.{Sought, rowCount, RowsCounted, SetFull, keyTaken, noRowRoom, rowRefusal, Roomy, Weighed, Entered, Dropped}
 
 -- an entry is held where its spot is one of the list
 pub held-spot : {E : Type 0} (key : E → Key) (k : Key) (xs : List E) → held (lookup key k xs) ≡ ltb (spot key k xs) (length xs)

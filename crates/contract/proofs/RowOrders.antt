@@ -12,13 +12,14 @@ use Rattle.model.specs.Places.{firstWhere, bound}
 use Rattle.model.specs.Package.{State}
 use Rattle.model.specs.Good.{Good, GoodSet}
 use Rattle.model.proofs.Lists.{each-map, pairs-map, none-any}
+use Rattle.model.proofs.Appends.{pairs-append}
 use Rattle.model.proofs.Walks.{first-append-none, first-append-stop, first-map}
 use Rattle.store.specs.Rows.{Row}
 use Rattle.contract.specs.Rows.{setOf, second, setKey, rowKey, RowKind, itemRows, defaultRows, overrideRows, relationshipRows, entryRows, otherRows, rowsFor}
 use Rattle.contract.specs.Holds.{Holds}
 use Rattle.contract.specs.Searches.{Ordered}
 use Rattle.contract.proofs.RowSearch.{set-less, set-greater, set-same}
-use Rattle.contract.proofs.RowLists.{pairs-append, each-of, pairs-under}
+use Rattle.contract.proofs.RowLists.{each-of, pairs-under}
 use Rattle.contract.proofs.RowKinds.{RowLawful, own-rows, item-rows, default-rows, override-rows, relationship-rows}
 
 -- rows of lesser and of greater sets beside a key of the set n

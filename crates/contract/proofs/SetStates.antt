@@ -16,10 +16,11 @@ use Rattle.model.specs.Package.{State, charge}
 use Rattle.model.specs.Calls.{Change, done, refused, changed, noRoom, change, changeRefusal, changeMade, putIn, takenOut}
 use Rattle.store.specs.Layout.{countOf, usedOf, slotCount}
 use Rattle.store.specs.Rows.{Row, rowSize, rowsOf}
+use Rattle.store.specs.Packages.{Became}
 use Rattle.contract.specs.Rows.{setOf, setKey, rowKey, RowKind, rowsFor}
 use Rattle.contract.specs.Holds.{Lies, Holds}
 use Rattle.contract.specs.Searches.{Ordered}
-use Rattle.contract.specs.Entries.{rowCount, keyTaken, noRowRoom, Became, Entered, Dropped, rowRefusal}
+use Rattle.contract.specs.Entries.{rowCount, keyTaken, noRowRoom, Entered, Dropped, rowRefusal}
 use Rattle.contract.proofs.RowKinds.{RowLawful}
 use Rattle.contract.proofs.RowOrders.{holds-ordered}
 use Rattle.contract.proofs.RowCharges.{used-charge, count-rows}
@@ -27,24 +28,25 @@ use Rattle.contract.proofs.Rans.{changed-refused}
 use Rattle.model.proofs.Refusals.{changed-done}
 use Rattle.contract.proofs.SetRows.{rowFor, set-lookup, set-remove, set-insert, set-count}
 
-module _ (b : List ℕ) (S : State) (h : Holds b S) (c : Change) (a : Answer) (q : List ℕ) where
-  -- the buffer then holds the package T
-  lies-in : (T : State) (rs : List Row) → Became b q rs → rs ≡ rowsFor T → T .capacity ≡ S .capacity → Lies q T
-  lies-in T rs w e f = record {
-    sound = w .sound;
-    format = w .format ∙ h .lies .format;
-    rows = w .rows ∙ e;
-    capacity = w .cap ∙ h .lies .capacity ∙ sym f;
-  }
+-- the buffer then holds the package T
+pub lies-in : (b : List ℕ) (S : State) → Holds b S → (q : List ℕ) (T : State) (rs : List Row) → Became b q rs → rs ≡ rowsFor T →
+    T .capacity ≡ S .capacity → Lies q T
+lies-in b S h q T rs w e f = record {
+  sound = w .sound;
+  format = w .format ∙ h .lies .format;
+  rows = w .rows ∙ e;
+  capacity = w .cap ∙ h .lies .capacity ∙ sym f;
+}
 
-  refused-step : (k : ℕ) → a ≡ refused k → changeRefusal S c ≡ k → (k ≡ 0 → ⊥) → q ≡ b → (a ≡ change S c .0) × Lies q (change S c .1)
+module _ (b : List ℕ) (S : State) (h : Holds b S) (c : Change) (a : Answer) (q : List ℕ) where
+  pub refused-step : (k : ℕ) → a ≡ refused k → changeRefusal S c ≡ k → (k ≡ 0 → ⊥) → q ≡ b → (a ≡ change S c .0) × Lies q (change S c .1)
   unfolding change
   refused-step k ea ek z eq =
       let e : changed (changeRefusal S c) S (changeMade S c) ≡ (refused k, S) =
       ap (λ (j : ℕ). changed j S (changeMade S c)) ek ∙ changed-refused k S (changeMade S c) z in
       rw e (ea, subst (λ (p : List ℕ). Lies p S) (sym eq) (h .lies))
 
-  made-step : (T : State) → a ≡ done → changeRefusal S c ≡ 0 → changeMade S c ≡ T → Lies q T → (a ≡ change S c .0) × Lies q (change S c .1)
+  pub made-step : (T : State) → a ≡ done → changeRefusal S c ≡ 0 → changeMade S c ≡ T → Lies q T → (a ≡ change S c .0) × Lies q (change S c .1)
   unfolding change
   made-step T ea ek em l =
       let e : changed (changeRefusal S c) S (changeMade S c) ≡ (done, changeMade S c) =
@@ -88,7 +90,7 @@ module _ {E : Type 0} (K : RowKind E) (L : RowLawful K) (b : List ℕ) (S : Stat
       go true e =
           let m = w .made ordered (held-row k ∙ e) in
           made-step b S h c a q (takenOut (K .kind) S k) (m .0) (ek ∙ ap (λ (t : Bool). when (not t) 13) e) em
-          (lies-in b S h c a q (takenOut (K .kind) S k) (remove rowKey (setKey (K .set) k) (rowsOf b)) (m .1)
+          (lies-in b S h q (takenOut (K .kind) S k) (remove rowKey (setKey (K .set) k) (rowsOf b)) (m .1)
           (ap (remove rowKey (setKey (K .set) k)) (h .lies .rows) ∙ set-remove K L k S) (L .lawful .capacity S _))
 
   -- a put of the entry e, where the call's own test gives the number own
@@ -134,5 +136,5 @@ module _ {E : Type 0} (K : RowKind E) (L : RowLawful K) (b : List ℕ) (S : Stat
             let z = eqb-true (rowRefusal b own (K .kind .limit) (K .row e)) 0 y in
             let m = w .made ordered z in
             made-step b S h c a q (putIn (K .kind) S e) (m .0) (ek ∙ sym refusal-is ∙ z) em
-            (lies-in b S h c a q (putIn (K .kind) S e) (insert rowKey (K .row e) (rowsOf b)) (m .1)
+            (lies-in b S h q (putIn (K .kind) S e) (insert rowKey (K .row e) (rowsOf b)) (m .1)
             (ap (insert rowKey (K .row e)) (h .lies .rows) ∙ set-insert K L e S) (L .lawful .capacity S _))

@@ -1,4 +1,4 @@
--- Document 01's number and values for each case of the engine's answers.
+-- The number and the values of documents 01 and 02 for each case of the engine's answers.
 -- Assumes nothing.
 use Prim.Native.Nat.{ℕ}
 use mathlib.Core.List.{List, [], _∷_}
@@ -6,6 +6,8 @@ use Rattle.output.specs.Answers.{Answer, answer, refusing}
 use Rattle.model.specs.Calls.{done, refused}
 use Rattle.contract.specs.declared.answers.Did.{Did}
 use Rattle.contract.specs.declared.answers.Did.the-variants as did
+use Rattle.contract.specs.declared.answers.Cut.{Cut}
+use Rattle.contract.specs.declared.answers.Cut.the-variants as cut
 use Rattle.contract.specs.declared.answers.Found.{Found}
 use Rattle.contract.specs.declared.answers.Found.the-variants as found
 use Rattle.contract.specs.declared.answers.Totalled.{Totalled}
@@ -14,6 +16,10 @@ use Rattle.contract.specs.declared.answers.Totalled.the-variants as tota
 abbrev pub ofDid : Did → Answer
 ofDid did.Done = done
 ofDid (did.Refused n) = refusing n (refused n)
+
+abbrev pub ofCut : Cut → Answer
+ofCut (cut.Into q r) = answer 0 (q ∷ r ∷ []) []
+ofCut (cut.Refused n) = refusing n (answer n (0 ∷ 0 ∷ []) [])
 
 abbrev pub ofFound : Found → Answer
 ofFound (found.Length n) = answer 0 (n ∷ []) []

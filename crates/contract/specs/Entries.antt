@@ -10,9 +10,9 @@ use Rattle.model.specs.Sets.{Key, held, lookup, insert, remove}
 use Rattle.model.specs.Fields.{when, first}
 use Rattle.model.specs.Places.{bound, spot}
 use Rattle.model.specs.Calls.{done, refused, Numbered}
-use Rattle.store.specs.Layout.{formatOf, capOf, countOf, usedOf, slotCount}
+use Rattle.store.specs.Layout.{capOf, countOf, usedOf, slotCount}
 use Rattle.store.specs.Rows.{Row, rowSize, rowsOf}
-use Rattle.store.specs.Packages.{Sound}
+use Rattle.store.specs.Packages.{Became}
 use Rattle.contract.specs.Rows.{setOf, keyIn, rowKey}
 use Rattle.contract.specs.Searches.{Ordered}
 
@@ -53,13 +53,6 @@ pub record Weighed (b : List ℕ) (own limit : ℕ) (x : Row) (k : ℕ) : Type 0
   pub is : Ordered b → k ≡ rowRefusal b own limit x
   pub room : k ≡ 0 → (countOf b < slotCount) × (usedOf b + rowSize x ≤ capOf b)
   pub numbered : Numbered k
-
--- q has the rows rs in the place of those of b, with the same capacity and format
-pub record Became (b q : List ℕ) (rs : List Row) : Type 0 where
-  pub sound : Sound q
-  pub rows : rowsOf q ≡ rs
-  pub cap : capOf q ≡ capOf b
-  pub format : formatOf q ≡ formatOf b
 
 -- a is the answer to a new row x, and q the buffer after it
 pub record Entered (b : List ℕ) (own limit : ℕ) (x : Row) (a : Answer) (q : List ℕ) : Type 0 where

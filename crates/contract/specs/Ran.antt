@@ -7,7 +7,7 @@ use mathlib.Core.List.{List, [], _∷_}
 use lib.ListN.{length, replicate}
 use Rattle.output.specs.Answers.{Answer, answer}
 use Rattle.model.specs.Package.{State, empty}
-use Rattle.model.specs.Calls.{Find, View, Totals, Call, Start, Looks, Changes, Prints, done, refused, Numbered, startRefusal, step, valueCount, lent}
+use Rattle.model.specs.Calls.{Find, View, Totals, Call, Start, Looks, Changes, CutPart, Prints, done, refused, Numbered, startRefusal, step, valueCount, lent}
 use Rattle.store.specs.Packages.{isPackage}
 use Rattle.contract.specs.Holds.{Holds}
 
@@ -18,6 +18,7 @@ turnedAway n (Looks (Find name)) = refused n
 turnedAway n (Looks (View name)) = answer 0 [] []
 turnedAway n (Looks Totals) = answer n (0 ∷ 0 ∷ 0 ∷ []) []
 turnedAway n (Changes c) = refused n
+turnedAway n (CutPart name k) = answer n (0 ∷ 0 ∷ []) []
 turnedAway n (Prints p output) = answer n (replicate (valueCount p) 0) output
 
 -- "1 the buffer is no package". (A start is never asked this: it minds no bytes.)
@@ -28,6 +29,7 @@ abbrev pub starts : Call → Bool
 starts (Start C) = true
 starts (Looks q) = false
 starts (Changes c) = false
+starts (CutPart name n) = false
 starts (Prints p output) = false
 
 -- a start minds no bytes: it makes an empty package of any buffer that has room for it, or refuses
@@ -35,6 +37,7 @@ abbrev pub Begun : Call → List ℕ → Answer → List ℕ → Type 0
 Begun (Start C) p a q = (startRefusal (length p) C ≡ 0 → (a ≡ done) × Holds q (empty C)) × ((startRefusal (length p) C ≡ 0 → ⊥) → a ≡ refused (startRefusal (length p) C))
 Begun (Looks l) p a q = Unit {0}
 Begun (Changes c) p a q = Unit {0}
+Begun (CutPart name n) p a q = Unit {0}
 Begun (Prints w output) p a q = Unit {0}
 
 -- THE PROMISE of every call. It ran on the lent bytes p, answered a, and left the bytes q. The program has one choice, what it answers where
@@ -47,7 +50,7 @@ pub record Ran (call : Call) (p : List ℕ) (a : Answer) (q : List ℕ) : Type 0
   pub kept : (a .number ≡ 0 → ⊥) → (q ≡ p) × (a .output ≡ lent call)
   -- "Answer 1 is decided by a written test of the bytes": it is the answer where they fail it,
   pub foreign : starts call ≡ false → isPackage p ≡ false → a ≡ noPackage call
-  -- and not where they pass; there too the call "refuses by a number from document 01"
+  -- and not where they pass; there too the call "refuses by a number from document 01" or document 02
   pub numbered : starts call ≡ false → isPackage p ≡ true → Numbered (a .number)
   pub begun : Begun call p a q
   -- the lent bytes keep their number

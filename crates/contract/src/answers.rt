@@ -1,8 +1,14 @@
 // The answers of the calls on a package; a call that writes one text answers `Written` of the crate iri.
 
-// The answer of a start, a put or a drop.
+// The answer of a start, a put, a drop or a join.
 pub enum Did {
     Done,
+    Refused(u8),
+}
+
+// The answer of a cut: how many bytes each piece has, and how many of the first pieces have one more.
+pub enum Cut {
+    Into(usize, usize),
     Refused(u8),
 }
 
