@@ -82,7 +82,7 @@ pub fn makes_part(pkg: &[u8], from: usize, to: usize) -> bool
 }
 
 // The rows of the group p.
-pub(crate) fn find_group(pkg: &[u8], p: &[u8]) -> Run
+pub fn find_group(pkg: &[u8], p: &[u8]) -> Run
     requires { ⌜ Shape (now pkg) ⌝ }
     ensures { λ r. ⌜ Grouped (now (pkg .entry)) (now (p .entry)) (r .from) (r .to) ⌝ }
 {

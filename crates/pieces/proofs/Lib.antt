@@ -1,0 +1,10 @@
+pub mod SuffixTexts
+pub mod PackageRows
+pub mod RowLists
+pub mod ChangedRows
+pub mod DividedRows
+pub mod Splits
+pub mod MergedRows
+pub mod PartTags
+pub mod JoinCalls
+pub mod CutCalls

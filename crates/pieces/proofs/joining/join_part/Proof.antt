@@ -1,0 +1,79 @@
+use mathlib.Core.Path.{refl}
+use native.Mathlib.Omega.{arith}
+use borrow.Author.Needs.{needs}
+use Rattle.model.specs.Calls.{Changes, JoinPart}
+use Rattle.contract.proofs.Opening.{turned-away, let-in}
+use Rattle.pieces.proofs.JoinCalls.{join-misnamed, join-missing, join-whole, join-done}
+use Rattle.pieces.proofs.joining.join_part.Statement.{statement}
+use Rattle.pieces.proofs.joining.join_part.Tie as tie
+
+returns : tie.Need-returns
+returns c =
+    let at-opened = c .before in
+    let a = at-opened .before .before .before .before .args in
+    turned-away _ (Changes (JoinPart (a .name .now))) _ refl (at-opened .opened .ensures) (c .if1 .taken)
+
+returns-2 : tie.Need-returns-2
+returns-2 c =
+    let at-is-part-name = c .before in
+    let at-if1 = at-is-part-name .before in
+    let at-opened = at-if1 .before in
+    let a = at-opened .before .before .before .before .args in
+    join-misnamed _ (let-in _ _ (at-opened .opened .ensures) (at-if1 .if1 .left)) (a .name .now) _ (at-is-part-name .is-part-name .ensures) (c .if2 .taken)
+
+find-group-requires : tie.Need-find-group-requires
+find-group-requires c κs =
+    let at-if1 = c .before .before .before in
+    let-in _ _ (at-if1 .before .opened .ensures) (at-if1 .if1 .left) .shape
+
+returns-3 : tie.Need-returns-3
+returns-3 c =
+    let at-makes-part = c .before in
+    let at-find-group = at-makes-part .before .before in
+    let at-if2 = at-find-group .before .before in
+    let at-is-part-name = at-if2 .before in
+    let at-if1 = at-is-part-name .before in
+    let at-opened = at-if1 .before in
+    let a = at-opened .before .before .before .before .args in
+    join-missing _ (let-in _ _ (at-opened .opened .ensures) (at-if1 .if1 .left)) (a .name .now) _ (at-is-part-name .is-part-name .ensures)
+    (at-if2 .if2 .left) _ _ (at-find-group .find-group .ensures) _ (at-makes-part .makes-part .ensures) (c .if3 .taken)
+
+returns-4 : tie.Need-returns-4
+returns-4 c =
+    let at-tag = c .before in
+    let at-if3 = at-tag .before .before in
+    let at-makes-part = at-if3 .before in
+    let at-find-group = at-makes-part .before .before in
+    let at-if2 = at-find-group .before .before in
+    let at-is-part-name = at-if2 .before in
+    let at-if1 = at-is-part-name .before in
+    let at-opened = at-if1 .before in
+    let a = at-opened .before .before .before .before .args in
+    join-whole _ (let-in _ _ (at-opened .opened .ensures) (at-if1 .if1 .left)) (a .name .now) _ (at-is-part-name .is-part-name .ensures)
+    (at-if2 .if2 .left) _ _ (at-find-group .find-group .ensures) _ (at-makes-part .makes-part .ensures)
+    (at-if3 .if3 .left) _ (at-tag .tag .ensures .1) (c .if4 .taken)
+
+returns-5 : tie.Need-returns-5
+returns-5 c =
+    let at-merge = c .before .before in
+    let at-if4 = at-merge .before .before in
+    let at-tag = at-if4 .before in
+    let at-if3 = at-tag .before .before in
+    let at-makes-part = at-if3 .before in
+    let at-find-group = at-makes-part .before .before in
+    let at-if2 = at-find-group .before .before in
+    let at-is-part-name = at-if2 .before in
+    let at-if1 = at-is-part-name .before in
+    let at-opened = at-if1 .before in
+    let a = at-opened .before .before .before .before .args in
+    join-done _ (let-in _ _ (at-opened .opened .ensures) (at-if1 .if1 .left)) (a .name .now) _ (at-is-part-name .is-part-name .ensures)
+    (at-if2 .if2 .left) _ _ (at-find-group .find-group .ensures) _ (at-makes-part .makes-part .ensures)
+    (at-if3 .if3 .left) _ (at-tag .tag .ensures .1) (at-if4 .if4 .left) _ (omega arith) (at-merge .merge .ensures)
+
+pub join-part-spec : {M : Type 1} → statement M
+join-part-spec =
+    tie.close
+    (tie.spec
+    (λ c κs. search needs) (λ c. search needs) returns (λ c κs. search needs) (λ c. search needs) returns-2 find-group-requires
+    (λ c κs. search needs) (λ c. search needs) returns-3 (λ c κs. search needs) (λ c. search needs) returns-4
+    (λ c. search needs) (λ c κs. search needs) (λ c. search needs) returns-5)

@@ -1,0 +1,4 @@
+pub mod Suffixes
+pub mod Rowed
+pub mod Cuts
+pub mod Joins
