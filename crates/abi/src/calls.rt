@@ -1,5 +1,6 @@
 // The calls on a package in one lent buffer.
 use crate::replies::Reply;
+use crate::replies::of_cut;
 use crate::replies::of_did;
 use crate::replies::of_found;
 use crate::replies::of_span;
@@ -13,6 +14,8 @@ use items::places::view_place;
 use parts::positions::part_at;
 use parts::reading::read_part;
 use parts::totals::totals;
+use pieces::cutting::cut_part;
+use pieces::joining::join_part;
 ghost use mathlib.Core.List.{[]};
 ghost use Rattle.model.specs.Calls.{Call, Look, Change, Print};
 ghost use Rattle.abi.specs.Replies.{Replied, ViewReply};
@@ -77,4 +80,20 @@ pub extern "C" fn opc_totals(pkg: &[u8]) -> Reply
     ensures { λ r. ⌜ Replied (Call.Looks Look.Totals) (now (pkg .entry)) r [] (now (pkg .entry)) ⌝ }
 {
     of_totalled(totals(pkg))
+}
+
+// Cuts a whole part into so many pieces: how many bytes each has, and how many of the first have one more.
+#[no_mangle]
+pub extern "C" fn opc_cut_part(pkg: &mut [u8], name: &[u8], pieces: u64) -> Reply
+    ensures { λ r. ⌜ Replied (Call.CutPart (now (name .entry)) pieces) (now (pkg .entry)) r [] (now (pkg .exit)) ⌝ }
+{
+    of_cut(cut_part(pkg, name, pieces))
+}
+
+// Makes one whole item of a part that is in pieces.
+#[no_mangle]
+pub extern "C" fn opc_join_part(pkg: &mut [u8], name: &[u8]) -> Reply
+    ensures { λ r. ⌜ Replied (Call.Changes (Change.JoinPart (now (name .entry)))) (now (pkg .entry)) r [] (now (pkg .exit)) ⌝ }
+{
+    of_did(join_part(pkg, name))
 }

@@ -1,6 +1,8 @@
 // The calls of a script, each made through the exported function.
+use crate::calls::opc_cut_part;
 use crate::calls::opc_drop_item;
 use crate::calls::opc_find_item;
+use crate::calls::opc_join_part;
 use crate::calls::opc_part_at;
 use crate::calls::opc_put_item;
 use crate::calls::opc_read_part;
@@ -136,7 +138,7 @@ fn make_print(
     d: &[u8],
     out: &mut [u8],
 ) -> Reply
-    requires { ⌜ (13 ≤ code) × (code ≤ lastCode) ⌝ }
+    requires { ⌜ (13 ≤ code) × (code ≤ 18) ⌝ }
     ensures { λ r. ⌜ Told (coded code n (now (a .entry)) (now (b .entry)) (now (c .entry)) (now (d .entry)) (now (out .entry))) (now (pkg .entry)) (now (out .entry)) r (now (out .exit)) (now (pkg .entry)) ⌝ }
 {
     if code == 13 {
@@ -155,6 +157,25 @@ fn make_print(
         return opc_write_types(pkg, out);
     }
     opc_write_relationships(pkg, a, out)
+}
+
+// The codes 19 and 20: the changes of parts.
+fn make_part_change(
+    pkg: &mut [u8],
+    code: usize,
+    n: u64,
+    a: &[u8],
+    b: &[u8],
+    c: &[u8],
+    d: &[u8],
+) -> Reply
+    requires { ⌜ (19 ≤ code) × (code ≤ lastCode) ⌝ }
+    ensures { λ r. ⌜ Unlent (coded code n (now (a .entry)) (now (b .entry)) (now (c .entry)) (now (d .entry))) (now (pkg .entry)) r (now (pkg .exit)) ⌝ }
+{
+    if code == 19 {
+        return opc_cut_part(pkg, a, n);
+    }
+    opc_join_part(pkg, a)
 }
 
 // The call with this code.
@@ -180,5 +201,8 @@ pub(crate) fn make(
     if code <= 12 {
         return make_look(pkg, code, n, a, b, c, d, out);
     }
-    make_print(pkg, code, n, a, b, c, d, out)
+    if code <= 18 {
+        return make_print(pkg, code, n, a, b, c, d, out);
+    }
+    make_part_change(pkg, code, n, a, b, c, d)
 }

@@ -1,4 +1,5 @@
 // The answer that every call hands to C and Rust, and how the engine's answers become it.
+use contract::answers::Cut;
 use contract::answers::Did;
 use contract::answers::Found;
 use contract::answers::Totalled;
@@ -12,7 +13,7 @@ ghost use Prim.Native.Nat.{ℕ};
 ghost use Rattle.output.specs.Answers.{answer, unanswered, ofWritten};
 ghost use Rattle.pack.specs.Pack.{ofResolved};
 ghost use Rattle.model.specs.Calls.{flag as flagOf};
-ghost use Rattle.contract.specs.Answers.{ofDid, ofFound, ofTotalled};
+ghost use Rattle.contract.specs.Answers.{ofDid, ofCut, ofFound, ofTotalled};
 ghost use Rattle.relationships.specs.Resolutions.{ofResolution};
 ghost use Rattle.abi.specs.Replies.{replyOf, HandsOver};
 
@@ -82,6 +83,15 @@ pub(crate) fn of_did(d: Did) -> Reply
     match d {
         Did::Done => one(0, 0),
         Did::Refused(k) => one(k, 0),
+    }
+}
+
+pub(crate) fn of_cut(d: Cut) -> Reply
+    ensures { λ r. ⌜ ((ofCut d ≡ unanswered → ⊥) → HandsOver (ofCut d) 2 r []) ⌝ }
+{
+    match d {
+        Cut::Into(q, r) => two(0, q, r),
+        Cut::Refused(k) => two(k, 0, 0),
     }
 }
 

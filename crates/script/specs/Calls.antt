@@ -9,8 +9,8 @@ use lib.Dec.{leb}
 use lib.ListN.{length, take, drop, getD}
 use Rattle.model.specs.Sets.{Bytes}
 use Rattle.model.specs.Calls.{Find, View, Totals, PutItem, DropItem, PutDefault, DropDefault, PutOverride, DropOverride, PutRelationship}
-use Rattle.model.specs.Calls.{DropRelationship, ReadPart, MediaType, PartAt, ResolveRelationship, WriteTypes, WriteRelationships, Call}
-use Rattle.model.specs.Calls.{Start, Looks, Changes, Prints}
+use Rattle.model.specs.Calls.{DropRelationship, JoinPart, ReadPart, MediaType, PartAt, ResolveRelationship, WriteTypes, WriteRelationships}
+use Rattle.model.specs.Calls.{Call, Start, Looks, Changes, CutPart, Prints}
 use Rattle.store.specs.Buffer.{num4}
 use Rattle.script.specs.Numbers.{num8}
 
@@ -38,12 +38,14 @@ calls n a b c d output =
     ∷ Prints (ResolveRelationship a b c) output
     ∷ Prints WriteTypes output
     ∷ Prints (WriteRelationships a) output
+    ∷ CutPart a n
+    ∷ Changes (JoinPart a)
     ∷ []
 
 abbrev pub lastCode : ℕ
-lastCode = 18
+lastCode = 20
 
--- the call with a code from 1 to 18
+-- the call with a code from 1 to 20
 unfoldable pub coded : ℕ → ℕ → Bytes → Bytes → Bytes → Bytes → Bytes → Call
 coded code n a b c d output = getD (calls n a b c d output) (code - 1) (Looks Totals)
 
