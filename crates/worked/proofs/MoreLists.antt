@@ -13,8 +13,8 @@ use Rattle.output.specs.declared.writing.Written.the-variants as written
 use Rattle.output.proofs.Answering.{filled-fits}
 use Rattle.model.specs.Sets.{Bytes}
 use Rattle.model.specs.Package.{empty}
-use Rattle.model.specs.Calls.{Call, Looks, Changes, Prints, View, Totals, PutItem, DropItem, PutDefault, DropDefault, PutOverride}
-use Rattle.model.specs.Calls.{DropOverride, PutRelationship, DropRelationship, PartAt, ReadPart, MediaType, WriteRelationships, printed}
+use Rattle.model.specs.Calls.{Call, Looks, Changes, CutPart, Prints, Find, View, Totals, PutItem, DropItem, PutDefault, DropDefault, PutOverride}
+use Rattle.model.specs.Calls.{DropOverride, PutRelationship, DropRelationship, JoinPart, PartAt, ReadPart, MediaType, WriteRelationships, printed}
 use Rattle.model.specs.Calls.{done, answers, after}
 use Rattle.model.specs.Opened.{everything}
 use Rattle.contract.specs.Answers.{ofTotalled}
@@ -53,6 +53,20 @@ counting =
 pub counted-last : (room : ℕ) → getD (answers room (empty 100) counting) 5 done ≡ answer 0 (1 ∷ 1 ∷ 11 ∷ []) []
 unfolding everything
 counted-last room = refl
+
+-- A TILE CUT, JOINED AND CUT AGAIN
+abbrev pub recutting : List Call
+recutting =
+    Changes (PutItem (ascii "/T.tif") (ascii "abcdefg"))
+    ∷ CutPart (ascii "/t.TIF") 3
+    ∷ Changes (JoinPart (ascii "/T.TIF"))
+    ∷ CutPart (ascii "/t.tif") 2
+    ∷ Looks (Find (ascii "/T.Tif/[1].LAST.piece"))
+    ∷ []
+
+pub recut-last : (room : ℕ) → getD (answers room (empty 100) recutting) 4 done ≡ answer 0 (3 ∷ []) []
+unfolding everything
+recut-last room = refl
 
 -- A MEDIA TYPE
 abbrev pub typing : List Call

@@ -13,6 +13,8 @@ use pack::pack::resolve_pack;
 use parts::positions::part_at;
 use parts::reading::read_part;
 use parts::totals::totals;
+use pieces::cutting::cut_part;
+use pieces::joining::join_part;
 use relationships::calls::drop_relationship;
 use relationships::calls::put_relationship;
 use relationships::resolving::Resolution;
@@ -105,6 +107,19 @@ fn joined(p: &mut [u8], name: &mut [u8], out: &mut [u8]) -> Written
     read_part(p, b"/T", 1, out)
 }
 
+// A tile is cut, joined and cut again, by other spellings of its name: of seven bytes the second of two pieces has three.
+fn recut(p: &mut [u8]) -> Found
+    requires { ⌜ 33000 ≤ length (now p) ⌝ }
+    ensures { λ r. ⌜ r ≡ Found.Length 3 ⌝ }
+{
+    start(p, 100);
+    put_item(p, b"/T.tif", b"abcdefg");
+    cut_part(p, b"/t.TIF", 3);
+    join_part(p, b"/T.TIF");
+    cut_part(p, b"/t.tif", 2);
+    find_item(p, b"/T.Tif/[1].LAST.piece")
+}
+
 // Another spelling of the tile's name is refused, and a name that grows out of it: the tile is viewed as it was put.
 fn viewed(p: &mut [u8]) -> &[u8]
     requires { ⌜ 33000 ≤ length (now p) ⌝ }
@@ -177,6 +192,11 @@ fn main() {
         return;
     };
     check::expect(n == 5);
+    let Found::Length(m) = recut(&mut p) else {
+        check::expect(false);
+        return;
+    };
+    check::expect(m == 3);
     let Totalled::Of {
         items,
         parts,
