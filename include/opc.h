@@ -56,7 +56,10 @@ enum opc_number {
     OPC_NO_MEDIA_TYPE = 14,
     OPC_FULL = 15,                 /* a set is full, or the charge would pass the capacity */
     /* a line of the program `sheet`, or what a script has instead of a call; only opc_run writes it, among its answers */
-    OPC_UNREADABLE_LINE = 16
+    OPC_UNREADABLE_LINE = 16,
+    /* cutting and joining */
+    OPC_BAD_PIECE_COUNT = 17,      /* no piece, or more than 256 */
+    OPC_WRONG_FORM = 18            /* to cut, the part is not whole; to join, it is not in pieces */
 };
 
 /* Of the three values the first `count` are the call's; the others are 0. On a refusal all are 0, but for the length of number 3. */
@@ -156,7 +159,7 @@ opc_reply opc_drop_item(uint8_t *package, size_t package_length, const uint8_t *
 opc_reply opc_find_item(const uint8_t *package, size_t package_length, const uint8_t *name, size_t name_length);
 
 /* Where an item's bytes begin in the package, and their number. The place is valid until the next call that may change the package:
-   a put may move the bytes of every item. It is never refused: of an item that is not held there are 0 bytes. */
+   a put, a cut or a join may move the bytes of every item. It is never refused: of an item that is not held there are 0 bytes. */
 opc_reply opc_view_item(const uint8_t *package, size_t package_length, const uint8_t *name, size_t name_length);
 
 /* Copies a part's content from `offset` on, as much as `out` takes: how many bytes these are.
@@ -167,6 +170,15 @@ opc_reply opc_read_part(const uint8_t *package, size_t package_length, const uin
 /* Copies the name of the part at a position, from 0, in folded order: its length. 255 bytes suffice.
    Refusals: 13; 3. */
 opc_reply opc_part_at(const uint8_t *package, size_t package_length, uint64_t position, uint8_t *out, size_t out_length);
+
+/* Cuts a whole part into so many pieces, 1 to 256, numbered from 0, the final one marked last: q and r. The first r pieces have q + 1
+   bytes, the others q; all have the part's spelling. What is read of the part, its media type and its position stay as they are.
+   Refusals: 4; 13 if no items make that part, or not yet; 18 if it is in pieces; 17; 15 by what would be held after it. */
+opc_reply opc_cut_part(uint8_t *package, size_t package_length, const uint8_t *name, size_t name_length, uint64_t pieces);
+
+/* Joins the pieces of a part: one whole item is held instead, in the spelling of piece 0. It needs no room.
+   Refusals: 4; 13 if no items make that part, or not yet; 18 if it is whole. */
+opc_reply opc_join_part(uint8_t *package, size_t package_length, const uint8_t *name, size_t name_length);
 
 /* How many items are held, how many parts they make, and the charge.
    Refusals: no others. */
@@ -264,7 +276,9 @@ enum opc_code {
     OPC_CALL_PART_AT = 15,              /* n position; writes */
     OPC_CALL_RESOLVE_RELATIONSHIP = 16, /* a source, b id, c package IRI; writes */
     OPC_CALL_WRITE_TYPES = 17,          /* writes */
-    OPC_CALL_WRITE_RELATIONSHIPS = 18   /* a source; writes */
+    OPC_CALL_WRITE_RELATIONSHIPS = 18,  /* a source; writes */
+    OPC_CALL_CUT_PART = 19,             /* a name, n how many pieces */
+    OPC_CALL_JOIN_PART = 20             /* a name */
 };
 
 /* Makes the calls of a script, each on the package as the one before left it: how many bytes of `out` were written, how many bytes of

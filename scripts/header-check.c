@@ -76,24 +76,28 @@ static int run_scripts(void)
     length = put_call(length, OPC_CALL_PUT_ITEM, 2, "/T5", "", 0);
     length = put_call(length, OPC_CALL_READ_PART, 8, "/T5", "", 1);
     length = put_call(length, OPC_CALL_VIEW_ITEM, 3, "/t5", "", 0);
+    length = put_call(length, OPC_CALL_CUT_PART, 0, "/t5", "", 3);
+    length = put_call(length, OPC_CALL_JOIN_PART, 1, "/t5", "", 0);
     length = put_call(length, OPC_CALL_DROP_ITEM, 0, "/t5", "", 0);
     length = put_call(length, OPC_CALL_TOTALS, 0, "", "", 0);
     CHECK(first == OPC_HEAD_SIZE + 7);
 
     memset(out, '.', sizeof out);
-    CHECK(is(opc_run(package, sizeof package, script, length, out, sizeof out), 0, 3, 253, length, 6));
+    CHECK(is(opc_run(package, sizeof package, script, length, out, sizeof out), 0, 3, 334, length, 8));
     CHECK(is(reply_at(out), 0, 1, 0, 0, 0));
     CHECK(is(reply_at(out + 40), OPC_TAKEN, 1, 0, 0, 0) && memcmp(out + 80, "..", 2) == 0);
     CHECK(is(reply_at(out + 82), 0, 1, 3, 0, 0) && memcmp(out + 122, "ile.....", 8) == 0);
     CHECK(is(reply_at(out + 130), 0, 1, 4, 0, 0) && memcmp(out + 170, "til", 3) == 0);
-    CHECK(is(reply_at(out + 173), 0, 1, 0, 0, 0));
-    CHECK(is(reply_at(out + 213), 0, 3, 2, 1, 50));
-    CHECK(out[253] == '.' && out[399] == '.');
+    CHECK(is(reply_at(out + 173), 0, 2, 1, 1, 0));
+    CHECK(is(reply_at(out + 213), 0, 1, 0, 0, 0) && out[253] == '.');
+    CHECK(is(reply_at(out + 254), 0, 1, 0, 0, 0));
+    CHECK(is(reply_at(out + 294), 0, 3, 2, 1, 50));
+    CHECK(out[334] == '.' && out[399] == '.');
 
     /* no room for the second answer; then what is no call in its place */
     CHECK(is(opc_run(package, sizeof package, script, length, out, 81), 0, 3, 40, first, 1));
     CHECK(is(opc_drop_item(package, sizeof package, TEXT("/t5")), 0, 1, 0, 0, 0));
-    put4(first, OPC_CALL_WRITE_RELATIONSHIPS + 1);
+    put4(first, OPC_CALL_JOIN_PART + 1);
     CHECK(is(opc_run(package, sizeof package, script, length, out, sizeof out), 0, 3, 80, first, 1));
     CHECK(is(reply_at(out + 40), OPC_UNREADABLE_LINE, 1, 0, 0, 0));
     return 0;
@@ -164,6 +168,18 @@ int main(void)
     CHECK(out[9] == '.');
 
     CHECK(is(opc_part_at(package, sizeof package, 0, out, 3), OPC_OUTPUT_TOO_SHORT, 1, 7, 0, 0));
+    CHECK(wrote(opc_part_at(package, sizeof package, 0, out, sizeof out), out, "/T3.tif"));
+
+    /* cut and joined */
+    CHECK(is(opc_join_part(package, sizeof package, TEXT("/t3.tif")), 0, 1, 0, 0, 0));
+    CHECK(is(opc_join_part(package, sizeof package, TEXT("/t3.tif")), OPC_WRONG_FORM, 1, 0, 0, 0));
+    CHECK(is(opc_find_item(package, sizeof package, TEXT("/t3.tif")), 0, 1, 11, 0, 0));
+    CHECK(is(opc_cut_part(package, sizeof package, TEXT("/t4"), 2), OPC_NOT_HELD, 2, 0, 0, 0));
+    CHECK(is(opc_cut_part(package, sizeof package, TEXT("/t3.tif"), 257), OPC_BAD_PIECE_COUNT, 2, 0, 0, 0));
+    CHECK(is(opc_cut_part(package, sizeof package, TEXT("/t3.tif"), 256), OPC_FULL, 2, 0, 0, 0));
+    CHECK(is(opc_cut_part(package, sizeof package, TEXT("/t3.tif"), 2), 0, 2, 5, 1, 0));
+    CHECK(is(opc_find_item(package, sizeof package, TEXT("/t3.tif/[0].piece")), 0, 1, 6, 0, 0));
+    CHECK(wrote(opc_read_part(package, sizeof package, TEXT("/t3.tif"), 0, out, sizeof out), out, "hello world"));
     CHECK(wrote(opc_part_at(package, sizeof package, 0, out, sizeof out), out, "/T3.tif"));
 
     /* its media types */

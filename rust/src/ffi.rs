@@ -125,6 +125,19 @@ extern "C" {
         out: *mut u8,
         out_length: usize,
     ) -> Reply;
+    pub(crate) fn opc_cut_part(
+        package: *mut u8,
+        package_length: usize,
+        name: *const u8,
+        name_length: usize,
+        pieces: u64,
+    ) -> Reply;
+    pub(crate) fn opc_join_part(
+        package: *mut u8,
+        package_length: usize,
+        name: *const u8,
+        name_length: usize,
+    ) -> Reply;
     pub(crate) fn opc_totals(package: *const u8, package_length: usize) -> Reply;
     pub(crate) fn opc_put_default(
         package: *mut u8,

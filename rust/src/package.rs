@@ -3,8 +3,10 @@
 //!
 //! An *item* is a name and its bytes. A whole item is a part by itself; the
 //! pieces `/[0].piece`, `/[1].piece` .. `/[n].last.piece` of a name make one
-//! part once all are there, in whatever order they came. Names are kept as
-//! given and looked up without regard to the case of ASCII letters.
+//! part once all are there, in whatever order they came. A whole part can be
+//! cut into pieces and these be joined again: what is read stays the same.
+//! Names are kept as given and looked up without regard to the case of ASCII
+//! letters.
 //!
 //! A part's media type is that of its *Override*, by name, else that of the
 //! *Default* of its extension. It may have parameters (`image/tiff;page=2`) and
@@ -34,11 +36,13 @@
 
 mod items;
 mod package_ref;
+mod pieces;
 mod relationships;
 mod streams;
 mod types;
 
 pub use package_ref::PackageRef;
+pub use pieces::Cut;
 pub use relationships::{Mode, Resolved};
 
 use crate::ffi::{self, Reply};

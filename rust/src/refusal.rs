@@ -44,10 +44,14 @@ pub enum Refusal {
     Full,
     /// 16: a line of a sheet is unreadable, or what a script has is no call.
     UnreadableLine,
+    /// 17: to be cut into no piece, or into more than 256.
+    BadPieceCount,
+    /// 18: the part is not whole, to be cut, or not in pieces, to be joined.
+    WrongForm,
 }
 
 impl Refusal {
-    /// The number of the refusal, 1 to 16.
+    /// The number of the refusal, 1 to 18.
     #[must_use]
     pub fn number(self) -> u8 {
         match self {
@@ -67,6 +71,8 @@ impl Refusal {
             Refusal::NoMediaType => 14,
             Refusal::Full => 15,
             Refusal::UnreadableLine => 16,
+            Refusal::BadPieceCount => 17,
+            Refusal::WrongForm => 18,
         }
     }
 
@@ -88,6 +94,8 @@ impl Refusal {
             Refusal::NoMediaType => "the part has no media type",
             Refusal::Full => "the package is full",
             Refusal::UnreadableLine => "the line or call is unreadable",
+            Refusal::BadPieceCount => "not 1 to 256 pieces",
+            Refusal::WrongForm => "the part is not whole or not in pieces",
         }
     }
 
@@ -110,6 +118,8 @@ impl Refusal {
             14 => Refusal::NoMediaType,
             15 => Refusal::Full,
             16 => Refusal::UnreadableLine,
+            17 => Refusal::BadPieceCount,
+            18 => Refusal::WrongForm,
             _ => return None,
         })
     }
@@ -141,7 +151,7 @@ impl Reply {
         assert!(unused.iter().all(|&value| value == 0), "an unnamed value");
         if self.number != 0 {
             let refusal = Refusal::from_number(self.number, self.first as usize);
-            return Err(refusal.expect("the archive knows only refusals 1 to 16"));
+            return Err(refusal.expect("the archive knows only refusals 1 to 18"));
         }
         assert_eq!(self.count, N as u64, "values in the archive's answer");
         Ok(std::array::from_fn(|i| values[i] as usize))
@@ -154,14 +164,14 @@ mod tests {
 
     #[test]
     fn numbers_go_forth_and_back() {
-        for number in 1..=16 {
+        for number in 1..=18 {
             let refusal = Refusal::from_number(number, 7).unwrap();
             assert_eq!(u64::from(refusal.number()), number);
             let text = refusal.to_string();
             assert!(text.ends_with(&format!("(refusal {number})")), "{text}");
         }
         assert_eq!(Refusal::from_number(0, 0), None);
-        assert_eq!(Refusal::from_number(17, 0), None);
+        assert_eq!(Refusal::from_number(19, 0), None);
     }
 
     #[test]

@@ -42,9 +42,13 @@
 //! lengths of the texts, and the low and the high half of a number. What a
 //! call does not take is passed over.
 
+mod answer;
+mod code;
 mod run;
 
-pub use run::{Answer, Answers, Run};
+pub use answer::Answer;
+pub use code::Code;
+pub use run::{Answers, Run};
 
 use crate::package::{Mode, Package};
 use std::fmt;
@@ -54,67 +58,6 @@ pub const HEAD_SIZE: usize = 32;
 
 /// The bytes of a reply, which every answer begins with.
 pub const REPLY_SIZE: usize = 40;
-
-/// The calls of a script, by their codes from 1 to 18.
-#[allow(missing_docs)] // each is the method of that name
-#[derive(Clone, Copy, Debug, PartialEq, Eq, PartialOrd, Ord, Hash)]
-pub enum Code {
-    Start = 1,
-    PutItem,
-    DropItem,
-    PutDefault,
-    DropDefault,
-    PutOverride,
-    DropOverride,
-    PutRelationship,
-    DropRelationship,
-    FindItem,
-    ViewItem,
-    Totals,
-    ReadPart,
-    MediaType,
-    PartAt,
-    ResolveRelationship,
-    WriteTypes,
-    WriteRelationships,
-}
-
-impl Code {
-    /// All codes, from 1 on.
-    pub const ALL: [Code; 18] = [
-        Code::Start,
-        Code::PutItem,
-        Code::DropItem,
-        Code::PutDefault,
-        Code::DropDefault,
-        Code::PutOverride,
-        Code::DropOverride,
-        Code::PutRelationship,
-        Code::DropRelationship,
-        Code::FindItem,
-        Code::ViewItem,
-        Code::Totals,
-        Code::ReadPart,
-        Code::MediaType,
-        Code::PartAt,
-        Code::ResolveRelationship,
-        Code::WriteTypes,
-        Code::WriteRelationships,
-    ];
-
-    /// The number of the code, 1 to 18.
-    #[must_use]
-    pub fn number(self) -> u32 {
-        self as u32
-    }
-
-    /// The code with that number, if there is one.
-    #[must_use]
-    pub fn from_number(number: u32) -> Option<Code> {
-        let index = usize::try_from(number).ok()?.checked_sub(1)?;
-        Code::ALL.get(index).copied()
-    }
-}
 
 /// Calls to be made by one [`Package::run`].
 ///
@@ -222,6 +165,50 @@ impl Script {
     /// [`Package::read_part`].
     pub fn read_part(&mut self, name: &[u8], offset: u64, length: usize) -> &mut Script {
         self.call(Code::ReadPart, [name, b"", b"", b""], offset, length)
+    }
+
+    /// [`Package::cut_part`].
+    ///
+    /// ```
+    /// use zombirels::package::{Cut, Package, OVERHEAD};
+    /// use zombirels::script::Script;
+    /// let mut script = Script::new();
+    /// script.put_item(b"/t3", b"0123456789").cut_part(b"/t3", 4);
+    /// script.view_item(b"/t3/[3].last.piece", 8);
+    ///
+    /// let mut buffer = vec![0; 100 + OVERHEAD];
+    /// let mut slide = Package::start(&mut buffer, 100)?;
+    /// let mut out = vec![0; script.output_len()];
+    /// let answers: Vec<_> = slide.run(&script, &mut out).answers().collect();
+    /// assert_eq!(answers[1].cut(), Ok(Cut { size: 2, longer: 2 }));
+    /// assert_eq!(answers[2].output(), Ok(&b"89"[..]));
+    /// # Ok::<(), zombirels::Refusal>(())
+    /// ```
+    pub fn cut_part(&mut self, name: &[u8], pieces: u64) -> &mut Script {
+        self.call(Code::CutPart, [name, b"", b"", b""], pieces, 0)
+    }
+
+    /// [`Package::join_part`].
+    ///
+    /// ```
+    /// use zombirels::package::{Package, OVERHEAD};
+    /// use zombirels::script::Script;
+    /// use zombirels::Refusal;
+    /// let mut script = Script::new();
+    /// script.put_item(b"/t3/[0].last.piece", b"tile");
+    /// script.join_part(b"/t3").view_item(b"/t3", 8).join_part(b"/t3");
+    ///
+    /// let mut buffer = vec![0; 100 + OVERHEAD];
+    /// let mut slide = Package::start(&mut buffer, 100)?;
+    /// let mut out = vec![0; script.output_len()];
+    /// let answers: Vec<_> = slide.run(&script, &mut out).answers().collect();
+    /// assert_eq!(answers[1].done(), Ok(()));
+    /// assert_eq!(answers[2].output(), Ok(&b"tile"[..]));
+    /// assert_eq!(answers[3].done(), Err(Refusal::WrongForm));
+    /// # Ok::<(), Refusal>(())
+    /// ```
+    pub fn join_part(&mut self, name: &[u8]) -> &mut Script {
+        self.call(Code::JoinPart, [name, b"", b"", b""], 0, 0)
     }
 
     /// [`Package::part_at`].

@@ -1,5 +1,5 @@
 //! Foreign buffers whose rows all lie in one place: every call ends, answers a
-//! number of document 01 other than 1, and changes nothing where it refuses.
+//! number of the papers other than 1, and changes nothing where it refuses.
 //! How long the calls take is printed by the benchmark of that name.
 
 #[path = "support/foreign.rs"]
@@ -19,7 +19,7 @@ const OUTPUT: usize = 6_000_000;
 fn number(buffer: &[u8], package: &mut [u8], call: Call, out: &mut [u8]) -> u8 {
     let answer = call(&mut Package::open(package), out);
     let number = answer.map_or_else(|refusal| refusal.number(), |()| 0);
-    assert!(number <= 16 && number != 1, "{number}");
+    assert!(number <= 18 && number != 1, "{number}");
     if number == 0 {
         package.copy_from_slice(buffer);
         out.fill(7);

@@ -47,6 +47,10 @@ pub enum Refusal {
     Full,
     /// 16: the line is unreadable, or what a script has is no call.
     UnreadableLine,
+    /// 17: not 1 to 256 pieces.
+    BadPieceCount,
+    /// 18: not whole, to be cut, or not in pieces, to be joined.
+    WrongForm,
 }
 
 impl Refusal {
@@ -68,6 +72,8 @@ impl Refusal {
             Refusal::NoMediaType => 14,
             Refusal::Full => 15,
             Refusal::UnreadableLine => 16,
+            Refusal::BadPieceCount => 17,
+            Refusal::WrongForm => 18,
         }
     }
 

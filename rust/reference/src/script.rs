@@ -60,7 +60,7 @@ impl<'a> Call<'a> {
         for (text, length) in texts.iter_mut().zip(four) {
             (*text, rest) = rest.split_at_checked(length as usize)?;
         }
-        (1..=18).contains(&code).then_some(Call {
+        (1..=20).contains(&code).then_some(Call {
             code,
             lent: lent as usize,
             size: script.len() - rest.len(),
@@ -73,6 +73,7 @@ impl<'a> Call<'a> {
     fn count(&self) -> u64 {
         match self.code {
             12 | 16 => 3,
+            19 => 2,
             _ => 1,
         }
     }
@@ -102,16 +103,8 @@ pub fn make(
         8 => ledger.put_relationship(a, b, c, n, d).map(done),
         9 => ledger.drop_relationship(a, b).map(done),
         10 => ledger.find_item(a).map(one),
-        11 => {
-            let part = ledger.view_item(a);
-            let copied = part.len().min(out.len());
-            out[..copied].copy_from_slice(&part[..copied]);
-            Ok(one(part.len()))
-        }
-        12 => {
-            let totals = ledger.totals();
-            Ok([totals.items, totals.parts, totals.charge])
-        }
+        11 => Ok(one(view(ledger, a, out))),
+        12 => Ok(totals(ledger)),
         13 => ledger.read_part(a, n, out).map(one),
         14 => ledger.media_type(a, out).map(one),
         15 => ledger.part_at(n, out).map(one),
@@ -120,8 +113,23 @@ pub fn make(
             .map(|found| [found.length as u64, found.mode, u64::from(found.held)]),
         17 => ledger.write_types(out).map(one),
         18 => ledger.write_relationships(a, out).map(one),
+        19 => ledger.cut_part(a, n).map(|cut| [cut.size, cut.longer, 0]),
+        20 => ledger.join_part(a).map(done),
         _ => Err(Refusal::UnreadableLine),
     }
+}
+
+/// Copies the bytes of an item, as many as find room: its length.
+fn view(ledger: &Ledger, name: &[u8], out: &mut [u8]) -> usize {
+    let part = ledger.view_item(name);
+    let copied = part.len().min(out.len());
+    out[..copied].copy_from_slice(&part[..copied]);
+    part.len()
+}
+
+fn totals(ledger: &Ledger) -> [u64; 3] {
+    let totals = ledger.totals();
+    [totals.items, totals.parts, totals.charge]
 }
 
 /// A reply as it lies in memory.
@@ -183,9 +191,30 @@ mod tests {
     }
 
     #[test]
+    fn cutting_and_joining() {
+        let script = [
+            call(1, 0, "", "", 100),
+            call(2, 0, "/a", "hello", 0),
+            call(19, 2, "/A", "", 1 << 32),
+            call(19, 2, "/A", "", 3),
+            call(20, 1, "/a", "", 7),
+            call(20, 0, "/a", "", 0),
+        ]
+        .concat();
+        let mut out = [b'.'; 250];
+        let ran = run(&mut Ledger::default(), 40_000, &script, &mut out);
+        assert_eq!(ran, (6 * REPLY + 5, script.len(), 6));
+        assert_eq!(numbers(&out[80..]), [17, 2, 0, 0, 0]);
+        assert_eq!(numbers(&out[122..]), [0, 2, 1, 2, 0]);
+        assert_eq!(numbers(&out[164..]), [0, 1, 0, 0, 0]);
+        assert_eq!(numbers(&out[205..]), [18, 1, 0, 0, 0]);
+        assert_eq!((&out[120..122], &out[162..164]), (&b".."[..], &b".."[..]));
+    }
+
+    #[test]
     fn ends() {
         let start = call(1, 5, "", "", 100);
-        let wrong = call(19, 100, "", "", 0);
+        let wrong = call(21, 100, "", "", 0);
         let script = [&start[..], &wrong, &start].concat();
         let mut out = [7; 200];
         let mut ran = |script: &[u8], length| {

@@ -1,9 +1,8 @@
-//! Scripts run, and their answers.
+//! Scripts run.
 
-use super::{Code, Package, Script, HEAD_SIZE, REPLY_SIZE};
-use crate::ffi::{self, Reply};
-use crate::package::{Resolved, Totals};
-use crate::Refusal;
+use super::answer::at;
+use super::{Answer, Code, Package, Script, HEAD_SIZE, REPLY_SIZE};
+use crate::ffi;
 use std::fmt;
 use std::iter::FusedIterator;
 
@@ -37,7 +36,8 @@ impl Package<'_> {
     }
 
     /// Runs a script from any bytes, stored ones or another's. Where they have
-    /// no call, the run ends with the answer [`Refusal::UnreadableLine`].
+    /// no call, the run ends with the answer
+    /// [`Refusal::UnreadableLine`](crate::Refusal::UnreadableLine).
     ///
     /// ```
     /// use zombirels::package::{Package, OVERHEAD};
@@ -125,7 +125,9 @@ impl<'a> Run<'a> {
     }
 
     /// The answers, in the order of the calls. Where the script has no call,
-    /// the last one is [`Refusal::UnreadableLine`], if there was room.
+    /// the last one is
+    /// [`Refusal::UnreadableLine`](crate::Refusal::UnreadableLine), if there
+    /// was room.
     #[must_use]
     pub fn answers(&self) -> Answers<'a> {
         Answers {
@@ -183,108 +185,4 @@ impl FusedIterator for Answers<'_> {}
 /// The numbers of a head.
 fn fields(head: &[u8]) -> [u32; 8] {
     std::array::from_fn(|i| u32::from_le_bytes(at(head, 4 * i)))
-}
-
-/// `N` bytes from a place on.
-fn at<const N: usize>(bytes: &[u8], place: usize) -> [u8; N] {
-    std::array::from_fn(|i| bytes[place + i])
-}
-
-/// The answer to one call of a script.
-#[derive(Clone, Copy, Debug, PartialEq, Eq)]
-pub struct Answer<'a> {
-    /// Which call it is; none where the script has no call.
-    pub code: Option<Code>,
-    /// The values, or why the call was refused. Those past the call's own are
-    /// 0; a call that names no value answers 0.
-    pub values: Result<[usize; 3], Refusal>,
-    /// The bytes that the call was lent, as it left them.
-    pub lent: &'a [u8],
-}
-
-impl<'a> Answer<'a> {
-    fn new(code: Option<Code>, reply: &[u8], lent: &'a [u8]) -> Answer<'a> {
-        let field = |i: usize| u64::from_le_bytes(at(reply, 8 * i));
-        let reply = Reply {
-            number: field(0),
-            count: field(1),
-            first: field(2),
-            second: field(3),
-            third: field(4),
-        };
-        let values = match code {
-            Some(Code::Totals | Code::ResolveRelationship) => reply.values(),
-            _ => reply.values().map(|[value]| [value, 0, 0]),
-        };
-        Answer { code, values, lent }
-    }
-
-    /// That the call was accepted.
-    ///
-    /// # Errors
-    ///
-    /// Those of the call.
-    pub fn done(&self) -> Result<(), Refusal> {
-        self.values.map(drop)
-    }
-
-    /// The first value: the length of the item that was found or viewed, or of
-    /// what the call wrote.
-    ///
-    /// # Errors
-    ///
-    /// Those of the call.
-    pub fn length(&self) -> Result<usize, Refusal> {
-        self.values.map(|[length, ..]| length)
-    }
-
-    /// What the call wrote; of a viewed item the bytes that were copied. A
-    /// call that writes nothing gives none.
-    ///
-    /// # Errors
-    ///
-    /// Those of the call.
-    pub fn output(&self) -> Result<&'a [u8], Refusal> {
-        let [length, ..] = self.values?;
-        let written = match self.code {
-            Some(code) if code >= Code::ReadPart || code == Code::ViewItem => length,
-            _ => 0,
-        };
-        Ok(&self.lent[..written.min(self.lent.len())])
-    }
-
-    /// What [`Package::totals`] answers.
-    ///
-    /// # Errors
-    ///
-    /// Those of the call.
-    ///
-    /// # Panics
-    ///
-    /// If it is another call.
-    pub fn totals(&self) -> Result<Totals, Refusal> {
-        assert_eq!(self.code, Some(Code::Totals), "not the answer of totals");
-        let [items, parts, charge] = self.values?;
-        Ok(Totals {
-            items,
-            parts,
-            charge,
-        })
-    }
-
-    /// What [`Package::resolve_relationship`] answers; the IRI is
-    /// [`Answer::output`].
-    ///
-    /// # Errors
-    ///
-    /// Those of the call.
-    ///
-    /// # Panics
-    ///
-    /// If it is another call.
-    pub fn resolved(&self) -> Result<Resolved, Refusal> {
-        let expected = Some(Code::ResolveRelationship);
-        assert_eq!(self.code, expected, "not the answer of a resolve");
-        self.values.map(Resolved::from_values)
-    }
 }

@@ -5,12 +5,13 @@
 //! outputs have exactly their length, so that a memory checker sees every
 //! access beside them: `scripts/memcheck` at the top runs them so.
 
+mod cuts;
 mod none;
 mod random;
 #[path = "../support/mod.rs"]
 mod support;
 
-use random::{drop_field, name, put_field, random_call};
+use random::{cut_or_join, drop_field, name, put_field, random_call};
 use std::collections::BTreeMap;
 use std::sync::atomic::{AtomicUsize, Ordering};
 use std::sync::Once;
@@ -52,19 +53,21 @@ fn watch() {
 struct Seen {
     calls: usize,
     numbers: BTreeMap<u64, usize>,
+    /// How often each number came for cuts and joins.
+    cuts: BTreeMap<(Code, u64), usize>,
 }
 
 impl Seen {
     fn print(&self, test: &str) {
-        let Seen { calls, numbers } = self;
+        let (calls, numbers) = (self.calls, &self.numbers);
         println!("{test}: {calls} calls, by number: {numbers:?}");
+        println!("{test}: cuts and joins: {:?}", self.cuts);
     }
 }
 
-/// Makes one call on the buffer. If it is refused, checks that nothing
-/// changed. Answers the number; a view has none and gives 0.
-fn call(random: &mut Random, seen: &mut Seen, buffer: &mut [u8]) -> u64 {
-    let call = random_call(random);
+/// Makes a call on the buffer. If it is refused, checks that nothing changed.
+/// A view has no number and gives 0.
+fn make(random: &mut Random, seen: &mut Seen, buffer: &mut [u8], call: &Call) {
     let before = buffer.to_vec();
     let mut out = random.bytes(call.lent).into_boxed_slice();
     let out_before = out.clone();
@@ -80,12 +83,14 @@ fn call(random: &mut Random, seen: &mut Seen, buffer: &mut [u8]) -> u64 {
         assert!(length <= before.len());
     }
     // what an accepted call didn't write is kept
-    let writes = call.code >= Code::ReadPart;
+    let writes = call.code.writes() && call.code != Code::ViewItem;
     let written = if writes { length } else { 0 };
     assert!(out[written..] == out_before[written..], "{}", show(&out));
     seen.calls += 1;
     *seen.numbers.entry(number).or_insert(0) += 1;
-    number
+    if matches!(call.code, Code::CutPart | Code::JoinPart) {
+        *seen.cuts.entry((call.code, number)).or_insert(0) += 1;
+    }
 }
 
 /// A package as calls make it, with gaps from dropped entries, in a buffer of
@@ -101,6 +106,7 @@ fn real_package(random: &mut Random) -> Box<[u8]> {
             0..=1 => Call::new(Code::DropItem, &[&name]),
             2..=3 => put_field(random),
             4 if random.once_in(2) => drop_field(random),
+            5 if random.once_in(2) => cut_or_join(random),
             _ => Call::new(Code::PutItem, &[&name, &random.bytes(size)]),
         };
         call.by_archive(&mut package, &mut []).ok();
@@ -132,7 +138,8 @@ fn run(test: &str, damage: impl Fn(&mut Random) -> Box<[u8]>) -> Seen {
     while seen.calls < calls {
         let mut buffer = damage(&mut random);
         for _ in 0..8 {
-            call(&mut random, &mut seen, &mut buffer);
+            let call = random_call(&mut random);
+            make(&mut random, &mut seen, &mut buffer, &call);
         }
         // a start takes any bytes, and what it makes works
         if random.once_in(8) && buffer.len() >= OVERHEAD + 20 {

@@ -6,6 +6,9 @@ use std::sync::atomic::Ordering;
 use zombirels::package::{Mode, Package, PackageRef, Totals, CAPACITY_MAX, OVERHEAD};
 use zombirels::Refusal;
 
+/// How many calls are made on each buffer.
+const NONE_CALLS: usize = 24;
+
 /// Each of these calls on the buffer gives 1, and the view is empty.
 fn is_no_package(buffer: &mut [u8]) {
     let before = buffer.to_vec();
@@ -20,6 +23,10 @@ fn is_no_package(buffer: &mut [u8]) {
     assert_eq!(package.read_part(b"/a", 0, &mut out), Err(one));
     assert_eq!(package.read_part(b"", u64::MAX, &mut out), Err(one));
     assert_eq!(package.part_at(0, &mut out), Err(one));
+    assert_eq!(package.cut_part(b"/a", 2), Err(one));
+    assert_eq!(package.cut_part(b"no name", 0), Err(one));
+    assert_eq!(package.join_part(b"/a"), Err(one));
+    assert_eq!(package.join_part(b"no name"), Err(one));
     assert_eq!(package.totals(), Err(one));
     assert_eq!(package.put_default(b"e", b"a/b"), Err(one));
     assert_eq!(package.drop_default(b"no.extension"), Err(one));
@@ -38,7 +45,7 @@ fn is_no_package(buffer: &mut [u8]) {
     let capacity = CAPACITY_MAX + 1;
     assert_eq!(package.restart(capacity), Err(Refusal::BadStart));
     assert!(*buffer == before);
-    ENDED.fetch_add(20, Ordering::Relaxed);
+    ENDED.fetch_add(NONE_CALLS, Ordering::Relaxed);
 }
 
 /// A buffer below 32,768 bytes is no package, whatever it holds; neither is
@@ -80,8 +87,8 @@ fn short_buffers_and_zeros() {
     }
     println!(
         "short buffers and zeros: {count} buffers, {} calls",
-        count * 20
+        count * NONE_CALLS
     );
     // as many as are asked for, or all lengths
-    assert!(count * 20 >= calls || count > 3 * OVERHEAD);
+    assert!(count * NONE_CALLS >= calls || count > 3 * OVERHEAD);
 }

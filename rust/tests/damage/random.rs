@@ -58,11 +58,21 @@ pub fn drop_field(random: &mut Random) -> Call {
     }
 }
 
+/// Cuts a part, or joins its pieces.
+pub fn cut_or_join(random: &mut Random) -> Call {
+    let name = name(random);
+    let pieces = random.pick(&[0, 1, 2, 2, 3, 9, 60, 256, 257, u64::MAX]);
+    match random.below(5) {
+        0 | 1 => Call::new(Code::JoinPart, &[&name]),
+        _ => Call::new(Code::CutPart, &[&name]).with_number(pieces),
+    }
+}
+
 /// A call on a package; its texts are allocations of their own lengths.
 pub fn random_call(random: &mut Random) -> Call {
     let length = random.pick(&[0, 1, 2, 7, 255, 600]);
     let (name, other) = (name(random), name(random));
-    match random.below(30) {
+    match random.below(34) {
         0 => {
             let size = random.below(400);
             Call::new(Code::PutItem, &[&name, &random.bytes(size)])
@@ -92,6 +102,7 @@ pub fn random_call(random: &mut Random) -> Call {
         }
         25..=27 if random.once_in(3) => Call::new(Code::WriteTypes, &[]).with_output(length * 12),
         25..=27 => Call::new(Code::WriteRelationships, &[&source(random)]).with_output(length * 12),
+        28..=31 => cut_or_join(random),
         _ => Call::new(Code::Totals, &[]),
     }
 }

@@ -60,6 +60,8 @@ impl List {
             Style::Tiles if random.once_in(4) => random.below(10_000),
             Style::Tiles => random.below(4200),
             Style::Full => random.below(4),
+            Style::Cuts if random.once_in(4) => 0,
+            Style::Cuts if random.once_in(4) => random.below(8000),
             _ => random.below(24),
         }
     }
@@ -68,6 +70,7 @@ impl List {
         let (puts, drops) = match self.style {
             Style::Full => (92, 2),
             Style::Pieces => (60, 6),
+            Style::Cuts => (50, 15),
             _ => (45, 18),
         };
         match random.below(100) {

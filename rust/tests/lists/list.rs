@@ -3,6 +3,8 @@
 use crate::support::calls::Call;
 use crate::support::Random;
 use crate::texts::SEGMENTS;
+use reference::ledger::Ledger;
+use std::collections::VecDeque;
 use zombirels::package::CAPACITY_MAX;
 
 /// What the names and sizes of a list are like.
@@ -18,6 +20,8 @@ pub enum Style {
     Pieces,
     /// Tiles of some thousand bytes, put and dropped.
     Tiles,
+    /// Parts of few bytes and of many, cut and joined.
+    Cuts,
     /// Few parts, types and relationships with colliding keys.
     Fields,
     /// Types or relationships without end, so that their sets get full.
@@ -41,6 +45,8 @@ pub struct List {
     pub relationships: Vec<(Vec<u8>, Vec<u8>)>,
     /// Whether the list fills the relationships, or else the types.
     pub relates: bool,
+    /// The calls that come next.
+    pub planned: VecDeque<Call>,
 }
 
 impl List {
@@ -51,6 +57,7 @@ impl List {
             Style::Tight => 2 + random.below(30),
             Style::Pieces => 1 + random.below(4),
             Style::Tiles => 5 + random.below(60),
+            Style::Cuts => 1 + random.below(20),
             Style::Fields => 1 + random.below(8),
             Style::FullFields => 70 + random.below(40),
         };
@@ -65,6 +72,7 @@ impl List {
             overrides: Vec::new(),
             relationships: Vec::new(),
             relates: random.once_in(2),
+            planned: VecDeque::new(),
         };
         list.lent = match random.below(120) {
             0 => CAPACITY_MAX + 1, // long enough for a capacity that is too large
@@ -78,22 +86,29 @@ impl List {
         list
     }
 
-    pub fn call(&self, random: &mut Random, charge: u64) -> Call {
+    /// The next call on the package of that ledger.
+    pub fn call(&mut self, random: &mut Random, ledger: &Ledger) -> Call {
+        if let Some(call) = self.planned.pop_front() {
+            return call;
+        }
         if random.once_in(40) {
             return self.stream_call(random);
         }
-        let others = match self.style {
-            Style::Full => 3,
-            Style::Pieces => 8,
-            Style::Crowded | Style::Tight | Style::Tiles => 15,
-            Style::Fields => 70,
-            Style::FullFields => 96,
+        // of a hundred calls: on fields, and cuts and joins
+        let (fields, cuts) = match self.style {
+            Style::Full => (3, 2),
+            Style::Pieces => (8, 8),
+            Style::Crowded | Style::Tight => (15, 8),
+            Style::Tiles => (15, 4),
+            Style::Cuts => (12, 35),
+            Style::Fields => (70, 3),
+            Style::FullFields => (96, 1),
         };
-        let room = (self.capacity - charge) as usize;
-        if random.below(100) < others {
-            self.field_call(random, room)
-        } else {
-            self.item_call(random, room)
+        let room = ledger.room() as usize;
+        match random.below(100) {
+            n if n < fields => self.field_call(random, room),
+            n if n < fields + cuts => self.cut_call(random, ledger),
+            _ => self.item_call(random, room),
         }
     }
 
@@ -114,6 +129,7 @@ fn random_capacity(random: &mut Random, style: Style) -> u64 {
         Style::Tight => random.below(400),
         Style::Pieces => 2000 + random.below(6000),
         Style::Tiles => 20_000 + random.below(60_000),
+        Style::Cuts => random.pick(&[400, 5000, 20_000]) + random.below(3000),
         Style::Fields => random.below(8000),
         Style::FullFields => 40_000,
     };
@@ -141,7 +157,7 @@ fn random_last(random: &mut Random, style: Style) -> Option<usize> {
         Style::Crowded | Style::Tight => random.once_in(2).then(|| random.below(4)),
         Style::Full => random.once_in(8).then(|| random.below(3)),
         Style::Pieces => (!random.once_in(8)).then(|| random.below(90)),
-        Style::Tiles => random.once_in(3).then(|| random.below(6)),
+        Style::Tiles | Style::Cuts => random.once_in(3).then(|| random.below(6)),
         Style::Fields | Style::FullFields => random.once_in(4).then(|| random.below(3)),
     }
 }

@@ -1,10 +1,11 @@
 //! Random lists of calls on one package: the archive beside the ledger of the
 //! reference. Compared are every answer, every output byte, every viewed byte.
 //!
-//! There are seven kinds of lists, 21,000 lists in all. ZOMBIRELS_LISTS sets how
+//! There are eight kinds of lists, 24,000 lists in all. ZOMBIRELS_LISTS sets how
 //! many each kind gets. From 1,000 on it is checked that each kind meets the
 //! refusals that it is there for.
 
+mod cuts;
 mod fields;
 mod items;
 mod list;
@@ -19,6 +20,7 @@ use pair::{Pair, Seen};
 use reference::ledger::Ledger;
 use support::calls::Call;
 use support::outputs::GUARD;
+use support::pieces::piece;
 use support::Random;
 use zombirels::package::{Package, OVERHEAD};
 use zombirels::script::Code;
@@ -62,8 +64,7 @@ fn run_list(random: &mut Random, style: Style, seen: &mut Seen) -> usize {
         _ => 50 + random.below(351),
     };
     for _ in 0..count {
-        let charge = pair.ledger.totals().charge;
-        let call = list.call(random, charge);
+        let call = list.call(random, &pair.ledger);
         if pair.compare(random, &call).is_ok() {
             note(&mut list, call);
         }
@@ -84,6 +85,12 @@ fn note(list: &mut List, call: Call) {
         Code::PutOverride => list.overrides.push(first),
         Code::PutRelationship => list.relationships.push((first, second)),
         Code::Start => list.restart(call.number),
+        Code::CutPart => {
+            let count = call.number as usize;
+            let pieces = [0, count / 2, count - 1].map(|k| piece(&first, k, count));
+            list.held.extend(pieces);
+        }
+        Code::JoinPart => list.held.push(first),
         _ => {}
     }
 }
@@ -102,6 +109,7 @@ fn run_lists(style: Style, expected: &[(Code, &[u64])], resolved: &[(usize, usiz
     let (numbers, parameters) = (&seen.numbers, &seen.parameters);
     println!("{test}: {lists} lists, {calls} calls compared; by call and number: {numbers:?}");
     println!("{test}: with parameters: {parameters:?}");
+    println!("{test}: cuts and joins: {:?}", seen.cuts);
     if lists < COVERED {
         return;
     }
@@ -114,6 +122,9 @@ fn run_lists(style: Style, expected: &[(Code, &[u64])], resolved: &[(usize, usiz
     for (code, number) in PARAMETERS {
         let met = seen.parameters.contains_key(&(code, number));
         assert!(met, "{test}: {code:?} {number} never came with parameters");
+    }
+    for kind in cuts::KINDS.iter().filter(|_| style == Style::Cuts) {
+        assert!(seen.cuts.contains_key(kind), "{test}: {kind} never came");
     }
     for answer in resolved {
         let met = seen.resolved.contains(answer);
@@ -134,6 +145,8 @@ fn crowded_lists() {
             (Code::ReadPart, &[0, 4, 13]),
             (Code::PartAt, &[0, 3, 13]),
             (Code::Totals, &[0]),
+            (Code::CutPart, &[0, 4, 13, 15, 17, 18]),
+            (Code::JoinPart, &[0, 4, 13, 18]),
         ],
         &[],
     );
@@ -148,6 +161,8 @@ fn full_lists() {
             (Code::DropItem, &[0, 13]),
             (Code::FindItem, &[0, 13]),
             (Code::PartAt, &[0, 3, 13]),
+            (Code::CutPart, &[0, 15]),
+            (Code::JoinPart, &[0, 13]),
         ],
         &[],
     );
@@ -162,6 +177,8 @@ fn tight_lists() {
             (Code::PutItem, &[0, 10, 11, 12, 15]),
             (Code::DropItem, &[0, 13]),
             (Code::ReadPart, &[0, 13]),
+            (Code::CutPart, &[0, 15]),
+            (Code::JoinPart, &[0, 13]),
         ],
         &[],
     );
@@ -176,6 +193,8 @@ fn pieces_lists() {
             (Code::DropItem, &[0, 13]),
             (Code::ReadPart, &[0, 4, 13]),
             (Code::PartAt, &[0, 3, 13]),
+            (Code::CutPart, &[0, 13, 18]),
+            (Code::JoinPart, &[0, 13, 18]),
         ],
         &[],
     );
@@ -190,6 +209,27 @@ fn tiles_lists() {
             (Code::DropItem, &[0, 13]),
             (Code::ViewItem, &[0]),
             (Code::ReadPart, &[0, 13]),
+            (Code::CutPart, &[0, 15, 17, 18]),
+            (Code::JoinPart, &[0, 13, 18]),
+        ],
+        &[],
+    );
+}
+
+#[test]
+fn cuts_lists() {
+    run_lists(
+        Style::Cuts,
+        &[
+            (Code::CutPart, &[0, 4, 13, 15, 17, 18]),
+            (Code::JoinPart, &[0, 4, 13, 18]),
+            (Code::PutItem, &[0, 10, 11, 12, 15]),
+            (Code::DropItem, &[0, 13]),
+            (Code::FindItem, &[0, 13]),
+            (Code::ViewItem, &[0]),
+            (Code::ReadPart, &[0, 13]),
+            (Code::MediaType, &[0, 13, 14]),
+            (Code::PartAt, &[0, 13]),
         ],
         &[],
     );

@@ -1,5 +1,6 @@
 //! One package on both sides: each call is made twice and compared.
 
+use crate::cuts::Before;
 use crate::support::calls::{Answer, Call};
 use crate::support::outputs::Outputs;
 use crate::support::Random;
@@ -15,6 +16,8 @@ pub struct Seen {
     pub numbers: BTreeMap<(Code, u64), usize>,
     /// The same of the calls that put or write a type with parameters.
     pub parameters: BTreeMap<(Code, u64), usize>,
+    /// What was remarkable about cuts and joins.
+    pub cuts: BTreeMap<&'static str, usize>,
     /// The modes of resolved targets, and whether their parts were held.
     pub resolved: BTreeSet<(usize, usize)>,
 }
@@ -60,6 +63,8 @@ impl Pair<'_> {
     pub fn compare(&mut self, random: &mut Random, call: &Call) -> Answer {
         let length = self.package.as_bytes().len() as u64;
         let mut outputs = Outputs::new(random, call.lent);
+        let cuts = matches!(call.code, Code::CutPart | Code::JoinPart);
+        let cut = cuts.then(|| Before::new(call, &self.ledger));
         let kept = (call.changes() && random.once_in(4)).then(|| self.package.as_bytes().to_vec());
         let answer = call.by_archive(&mut self.package, outputs.archive());
         let right = call.by_reference(&mut self.ledger, length, outputs.reference());
@@ -81,6 +86,9 @@ impl Pair<'_> {
             _ => {}
         }
         self.seen.add(call, answer, outputs.archive());
+        for kind in cut.map_or(Vec::new(), |before| before.kinds(call, answer)) {
+            *self.seen.cuts.entry(kind).or_insert(0) += 1;
+        }
         self.made.push(call.clone());
         answer
     }

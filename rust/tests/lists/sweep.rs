@@ -14,9 +14,11 @@ impl Pair<'_> {
     /// relationship leads to, the streams, the totals, with outputs of each
     /// length. Then drops the types and relationships, one by one.
     pub fn sweep(&mut self, random: &mut Random, list: &List) {
-        for name in list.held.iter().collect::<BTreeSet<_>>() {
-            self.ask(random, Code::FindItem, &[name], 0).ok();
-            self.ask(random, Code::ViewItem, &[name], 0).ok();
+        let items = self.ledger.items().map(|(name, _)| name.to_vec());
+        let names: BTreeSet<Vec<u8>> = items.chain(list.held.iter().cloned()).collect();
+        for name in names {
+            self.ask(random, Code::FindItem, &[&name], 0).ok();
+            self.ask(random, Code::ViewItem, &[&name], 0).ok();
         }
         self.sweep_parts(random);
         self.sweep_relationships(random, list);

@@ -32,6 +32,8 @@ fn add(script: &mut Script, call: &Call) {
         Code::ResolveRelationship => script.resolve_relationship(a, b, c, lent),
         Code::WriteTypes => script.write_types(lent),
         Code::WriteRelationships => script.write_relationships(a, lent),
+        Code::CutPart => script.cut_part(a, n),
+        Code::JoinPart => script.join_part(a),
     };
 }
 
@@ -58,6 +60,7 @@ fn built_scripts() {
                 Code::PutRelationship,
                 Code::ReadPart,
                 Code::PartAt,
+                Code::CutPart,
             ];
             if !takes_number.contains(&code) {
                 call.number = 0;
@@ -65,7 +68,7 @@ fn built_scripts() {
             if code == Code::PutRelationship {
                 call.number %= 2; // the method has two modes
             }
-            if code >= Code::ReadPart || code == Code::ViewItem {
+            if code.writes() {
                 call.lent = random.below(300);
             }
             add(&mut script, &call);
@@ -84,7 +87,7 @@ fn codes() {
         assert_eq!(Code::from_number(code.number()), Some(code));
     }
     assert_eq!(Code::from_number(0), None);
-    assert_eq!(Code::from_number(19), None);
+    assert_eq!(Code::from_number(21), None);
     assert_eq!(Code::from_number(u32::MAX), None);
 }
 

@@ -91,6 +91,7 @@ pub fn random_call(random: &mut Random, lent: u64) -> Call {
         Code::PutRelationship => any % 2,
         Code::ReadPart => random.pick(&[0, 0, 1, 5, 1 << 32, u64::MAX]),
         Code::PartAt => random.pick(&[0, 1, 2, 3, 1 << 32, u64::MAX]),
+        Code::CutPart => random.pick(&[0, 1, 2, 3, 5, 11, 21, 200, 256, 257, (1 << 32) + 2, any]),
         _ => random.pick(&[0, any]),
     };
     Call {
@@ -169,7 +170,7 @@ pub fn random_tail(random: &mut Random) -> Vec<u8> {
     match random.below(8) {
         0 => whole[..random.below(whole.len())].to_vec(),
         1 => {
-            let code = random.pick(&[0, 19, 255, 256 + 2, 1 << 24, u32::MAX]);
+            let code = random.pick(&[0, 21, 255, 256 + 2, 1 << 24, u32::MAX]);
             let mut bytes = whole;
             bytes[..4].copy_from_slice(&code.to_le_bytes());
             bytes

@@ -64,7 +64,7 @@ fn check_answer(answer: &Answer, call: &Call, lent: &[u8], expected: calls::Answ
     assert_eq!(answer.length().map_err(numbers), expected.map(|v| v[0]));
     let written = expected.map(|[length, ..]| match call.code {
         Code::ViewItem => &lent[..length.min(lent.len())],
-        code if code >= Code::ReadPart => &lent[..length],
+        code if code.writes() => &lent[..length],
         _ => &[],
     });
     assert_eq!(answer.output().map_err(numbers), written);
@@ -77,6 +77,10 @@ fn check_answer(answer: &Answer, call: &Call, lent: &[u8], expected: calls::Answ
             let resolved = answer.resolved().map_err(numbers);
             let values = |r: Resolved| [r.length, r.mode.number() as usize, usize::from(r.held)];
             assert_eq!(resolved.map(values), expected);
+        }
+        Code::CutPart => {
+            let cut = answer.cut().map_err(numbers);
+            assert_eq!(cut.map(|cut| [cut.size, cut.longer, 0]), expected);
         }
         _ => {}
     }
@@ -135,12 +139,10 @@ fn damaged_packages() {
     assert!(none > 0);
 }
 
-/// On foreign buffers whose rows all lie in one place, every call in a script.
-#[test]
-fn foreign_buffers() {
-    let mut random = Random::new("foreign buffers");
+/// Every call, one after the other.
+fn every_call() -> Vec<Call> {
     let base: &[u8] = b"http://h/p.opc";
-    let calls = [
+    vec![
         Call::new(Code::FindItem, &[b"/a"]),
         Call::new(Code::ViewItem, &[b"/a"]).with_output(5000),
         Call::new(Code::Totals, &[]),
@@ -152,7 +154,11 @@ fn foreign_buffers() {
         Call::new(Code::ResolveRelationship, &[b"/", b"a", base]).with_output(100),
         Call::new(Code::WriteTypes, &[]).with_output(2_000_000),
         Call::new(Code::WriteRelationships, &[b"/"]).with_output(2_000_000),
+        Call::new(Code::CutPart, &[b"/a"]).with_number(2),
+        Call::new(Code::JoinPart, &[b"/a"]),
         Call::new(Code::PutItem, &[b"/b", &[7; 100]]),
+        Call::new(Code::CutPart, &[b"/b"]).with_number(200),
+        Call::new(Code::JoinPart, &[b"/b"]),
         Call::new(Code::DropItem, &[b"/a"]),
         Call::new(Code::PutDefault, &[b"a", b"a/b"]),
         Call::new(Code::DropDefault, &[b"a"]),
@@ -162,7 +168,14 @@ fn foreign_buffers() {
         Call::new(Code::DropRelationship, &[b"/", b"a"]),
         Call::new(Code::Start, &[]).with_number(1000),
         Call::new(Code::Totals, &[]),
-    ];
+    ]
+}
+
+/// On foreign buffers whose rows all lie in one place, every call in a script.
+#[test]
+fn foreign_buffers() {
+    let mut random = Random::new("foreign buffers");
+    let calls = every_call();
     for rows in &KINDS {
         for header in HEADERS {
             for share in [Share::Heap, Share::Used] {

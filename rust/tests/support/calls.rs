@@ -41,7 +41,7 @@ impl Call {
 
     /// Whether the call changes the package if it is accepted.
     pub fn changes(&self) -> bool {
-        self.code < Code::FindItem
+        self.code < Code::FindItem || self.code >= Code::CutPart
     }
 
     /// Whether the call puts a media type with parameters, well-formed or not.
@@ -86,6 +86,8 @@ impl Call {
                 .map(|r| [r.length, r.mode.number() as usize, usize::from(r.held)]),
             Code::WriteTypes => package.write_types(out).map(one),
             Code::WriteRelationships => package.write_relationships(a, out).map(one),
+            Code::CutPart => package.cut_part(a, n).map(|cut| [cut.size, cut.longer, 0]),
+            Code::JoinPart => package.join_part(a).map(done),
         };
         answer.map_err(numbers)
     }

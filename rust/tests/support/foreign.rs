@@ -49,7 +49,7 @@ fn of_piece(i: u32) -> u32 {
     2 * i + 2 + u32::from(i == ROWS - 1)
 }
 
-pub const KINDS: [Rows; 9] = [
+pub const KINDS: [Rows; 12] = [
     Rows {
         what: "types",
         tag: |i| if i < ROWS / 2 { DEFAULT } else { OVERRIDE },
@@ -107,6 +107,29 @@ pub const KINDS: [Rows; 9] = [
         at: |i| 1 + 1500 * i,
         fields: |_| [2, 0, 1000, 0],
     },
+    // items enough are free for a cut, but hardly a row is
+    Rows {
+        what: "one whole item and relationships, /a",
+        tag: |i| if i == 0 { 0 } else { RELATIONSHIP },
+        at: |_| 1,
+        fields: |n| [2, 0, n - 2, 0],
+    },
+    Rows {
+        what: "one piece and relationships, /a",
+        tag: |i| if i == 0 { 3 } else { RELATIONSHIP },
+        at: |_| 1,
+        fields: |n| [2, 0, n - 2, 0],
+    },
+    Rows {
+        what: "256 pieces and relationships, /a",
+        tag: |i| match i {
+            0..=254 => 2 * i + 2,
+            255 => 2 * i + 3,
+            _ => RELATIONSHIP,
+        },
+        at: |_| 1,
+        fields: |n| [2, 0, n - 2, 0],
+    },
 ];
 
 /// The bytes that a row has: all of the heap, or so many that all rows have no
@@ -148,7 +171,7 @@ const TYPE: &[u8] = b"image/tiff";
 const BASE: &[u8] = b"http://example.com/slide.opc";
 
 /// Every call on a package but start.
-pub const CALLS: [(&str, Call); 19] = [
+pub const CALLS: [(&str, Call); 24] = [
     ("put item", |p, _| p.put_item(b"/b", &[7; 100])),
     ("put item, derivable", |p, _| p.put_item(b"/a/b", b"")),
     ("drop item", |p, _| p.drop_item(b"/a")),
@@ -159,6 +182,13 @@ pub const CALLS: [(&str, Call); 19] = [
     }),
     ("read part", |p, out| p.read_part(b"/a", 0, out).map(drop)),
     ("part at", |p, out| p.part_at(300, out).map(drop)),
+    ("cut part", |p, _| p.cut_part(b"/a", 2).map(drop)),
+    ("cut part, 256 pieces", |p, _| {
+        p.cut_part(b"/a", 256).map(drop)
+    }),
+    ("cut part, no piece", |p, _| p.cut_part(b"/a", 0).map(drop)),
+    ("join part", |p, _| p.join_part(b"/a")),
+    ("join part, not held", |p, _| p.join_part(b"/b")),
     ("totals", |p, _| p.totals().map(drop)),
     ("put Default", |p, _| p.put_default(b"a", TYPE)),
     ("drop Default", |p, _| p.drop_default(b"a")),

@@ -4,6 +4,7 @@
 
 pub mod calls;
 pub mod outputs;
+pub mod pieces;
 pub mod types;
 
 use std::time::{SystemTime, UNIX_EPOCH};

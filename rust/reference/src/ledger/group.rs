@@ -46,6 +46,14 @@ pub(super) struct Group {
 }
 
 impl Group {
+    /// A group of these items, whose numbers differ.
+    pub(super) fn of(items: impl IntoIterator<Item = Item>) -> Group {
+        let items = items.into_iter().map(|item| (item.number(), item));
+        Group {
+            items: items.collect(),
+        }
+    }
+
     /// Whether `piece` (or the whole item) may join; 10 or 12 if not.
     pub(super) fn check(&self, piece: Option<Piece>) -> Result<(), Refusal> {
         let Some((&highest, end)) = self.items.last_key_value() else {
@@ -79,6 +87,15 @@ impl Group {
         })
     }
 
+    /// The item of a group that is one whole item.
+    pub(super) fn whole(&self) -> Option<&Item> {
+        self.items.values().find(|item| item.piece.is_none())
+    }
+
+    pub(super) fn charge(&self) -> u64 {
+        self.items.values().map(Item::charge).sum()
+    }
+
     /// The spelling of a part.
     pub(super) fn spelling(&self) -> &[u8] {
         self.items.get(&0).map_or(b"", Item::prefix)
@@ -86,6 +103,11 @@ impl Group {
 
     pub(super) fn content_length(&self) -> usize {
         self.items.values().map(|item| item.bytes.len()).sum()
+    }
+
+    pub(super) fn content(&self) -> Vec<u8> {
+        let pieces = self.items.values().map(|item| &item.bytes[..]);
+        pieces.collect::<Vec<_>>().concat()
     }
 
     /// Copies the content from `offset` on, as much as `out` takes.

@@ -1,5 +1,7 @@
+mod cuts;
 mod types;
 
+use super::types::Typed;
 use super::*;
 
 const LENGTH: u64 = 1_032_768;
