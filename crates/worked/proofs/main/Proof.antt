@@ -34,6 +34,7 @@ pub main-spec : {M : Type 1} → statement M
 main-spec =
     tie.close (tie.spec
     (λ c. search needs) (λ c κs. search needs) (λ c. search needs) (λ c. search needs) (λ c κs. search needs) (λ c. search needs)
-    expect-requires-2 (λ c. search needs) (λ c κs. search needs) (λ c. search needs) (λ c. search needs) (λ c κs. search needs) (λ c. search needs)
-    expect-requires-4 (λ c. search needs) (λ c κs. search needs) (λ c. search needs) (λ c. search needs) (λ c κs. search needs) (λ c. search needs)
-    expect-requires-6 (λ c. search needs) (λ c κs. search needs) (λ c κs. search needs) (λ c. search needs) (λ c κs. search needs) (λ c κs. eq-eqb _ 5 (ap length (c .before .viewed .ensures))) (λ c. search needs))
+    expect-requires-2 (λ c. search needs) (λ c κs. search needs) (λ c. search needs) (λ c. search needs) (λ c κs. search needs) (λ c. search
+    needs) expect-requires-4 (λ c. search needs) (λ c κs. search needs) (λ c. search needs) (λ c. search needs) (λ c κs. search needs) (λ c.
+    search needs) expect-requires-6 (λ c. search needs) (λ c κs. search needs) (λ c κs. search needs) (λ c. search needs) (λ c κs. search
+    needs) (λ c κs. eq-eqb _ 5 (ap length (c .before .viewed .ensures))) (λ c. search needs))

@@ -57,4 +57,6 @@ returns-4 c =
     _ (at-refusal .cut-refusal .ensures) (at-if3 .if3 .left) _ _ (omega arith) (at-row .cut-row .ensures)
 
 pub cut-part-spec : {M : Type 1} → statement M
-cut-part-spec = tie.close (tie.spec (λ c κs. search needs) (λ c. search needs) returns (λ c κs. search needs) (λ c. search needs) returns-2 find-group-requires cut-refusal-requires (λ c. search needs) returns-3 cut-row-requires (λ c. search needs) returns-4)
+cut-part-spec = tie.close (tie.spec
+    (λ c κs. search needs) (λ c. search needs) returns (λ c κs. search needs) (λ c. search needs) returns-2 find-group-requires
+    cut-refusal-requires (λ c. search needs) returns-3 cut-row-requires (λ c. search needs) returns-4)

@@ -44,4 +44,6 @@ pub cut-row-spec : {M : Type 1} → statement M
 cut-row-spec =
     tie.close
     (tie.spec
-    (λ c κs. search needs) (λ c κs. search needs) (λ c κs. search needs) (λ c. search needs) slice-aggregate-copy-in-2 copy-in-requires (λ c. search needs) (λ c. search needs) (λ c. search needs) returns (λ c. search needs) slice-aggregate-split (λ c. search needs) (λ c. search needs) split-requires (λ c. search needs) (λ c. search needs) (λ c. search needs) returns-2)
+    (λ c κs. search needs) (λ c κs. search needs) (λ c κs. search needs) (λ c. search needs) slice-aggregate-copy-in-2 copy-in-requires (λ
+    c. search needs) (λ c. search needs) (λ c. search needs) returns (λ c. search needs) slice-aggregate-split (λ c. search needs) (λ c.
+    search needs) split-requires (λ c. search needs) (λ c. search needs) (λ c. search needs) returns-2)

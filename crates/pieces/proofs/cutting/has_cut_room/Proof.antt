@@ -37,4 +37,6 @@ returns-2 c =
     room-told _ _ _ _ (pre .2) (at-count .item-count .ensures) (at-if1 .if1 .left) _ _ (c .free .ensures) (at-suffixes .suffixes-length .ensures .0)
 
 pub has-cut-room-spec : {M : Type 1} → statement M
-has-cut-room-spec = tie.close (tie.spec (λ c. search needs) (λ c κs. search needs) (λ c. search needs) returns (λ c. search needs) mul-result (λ c κs. search needs) add-result (λ c κs. search needs) returns-2)
+has-cut-room-spec = tie.close (tie.spec
+    (λ c. search needs) (λ c κs. search needs) (λ c. search needs) returns (λ c. search needs) mul-result (λ c κs. search needs) add-result
+    (λ c κs. search needs) returns-2)

@@ -74,6 +74,6 @@ pub join-part-spec : {M : Type 1} → statement M
 join-part-spec =
     tie.close
     (tie.spec
-    (λ c κs. search needs) (λ c. search needs) returns (λ c κs. search needs) (λ c. search needs) returns-2 find-group-requires
-    (λ c κs. search needs) (λ c. search needs) returns-3 (λ c κs. search needs) (λ c. search needs) returns-4
-    (λ c. search needs) (λ c κs. search needs) (λ c. search needs) returns-5)
+    (λ c κs. search needs) (λ c. search needs) returns (λ c κs. search needs) (λ c. search needs) returns-2 find-group-requires (λ c κs.
+    search needs) (λ c. search needs) returns-3 (λ c κs. search needs) (λ c. search needs) returns-4 (λ c. search needs) (λ c κs. search
+    needs) (λ c. search needs) returns-5)

@@ -32,4 +32,7 @@ returns-3 c =
     absorb-done _ _ _ _ (at-pass .before .before .field .ensures .2) (at-pass .pass .ensures) _ (at-remove .remove .ensures)
 
 pub absorb-spec : {M : Type 1} → statement M
-absorb-spec = tie.close (tie.spec (λ c. search needs) (λ c κs. search needs) (λ c. search needs) returns (λ c. search needs) (λ c κs. search needs) (λ c. search needs) pass-requires (λ c. search needs) (λ c κs. search needs) (λ c. search needs) returns-2 (λ c. search needs) remove-requires (λ c. search needs) returns-3)
+absorb-spec = tie.close (tie.spec
+    (λ c. search needs) (λ c κs. search needs) (λ c. search needs) returns (λ c. search needs) (λ c κs. search needs) (λ c. search needs)
+    pass-requires (λ c. search needs) (λ c κs. search needs) (λ c. search needs) returns-2 (λ c. search needs) remove-requires (λ c. search
+    needs) returns-3)

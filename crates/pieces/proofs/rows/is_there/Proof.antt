@@ -14,4 +14,5 @@ returns-2 : tie.Need-returns-2
 returns-2 c = not-there _ _ (sym (c .before .is-package .ensures) ∙ c .if1 .left)
 
 pub is-there-spec : {M : Type 1} → statement M
-is-there-spec = tie.close (tie.spec (λ c κs. search needs) (λ c κs. search needs) returns returns-2)
+is-there-spec = tie.close (tie.spec
+    (λ c κs. search needs) (λ c κs. search needs) returns returns-2)

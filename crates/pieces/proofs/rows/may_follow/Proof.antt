@@ -23,4 +23,5 @@ returns-3 c =
     behind-is _ _ _ _ _ (at-if1 .before .is-there .ensures .safe (not-false _ (at-if1 .if1 .left))) (at-count .count .ensures .0) (at-if2 .if2 .left) (c .free .ensures)
 
 pub may-follow-spec : {M : Type 1} → statement M
-may-follow-spec = tie.close (tie.spec (λ c κs. search needs) returns (λ c κs. search needs) returns-2 free-requires returns-3)
+may-follow-spec = tie.close (tie.spec
+    (λ c κs. search needs) returns (λ c κs. search needs) returns-2 free-requires returns-3)

@@ -16,4 +16,5 @@ returns-2 : tie.Need-returns-2
 returns-2 c = rename-lost _ _ _ _ _ (c .before .is-there .ensures) (c .if1 .left)
 
 pub rename-spec : {M : Type 1} → statement M
-rename-spec = tie.close (tie.spec (λ c κs. search needs) respell-requires (λ c. search needs) returns (λ c. search needs) returns-2)
+rename-spec = tie.close (tie.spec
+    (λ c κs. search needs) respell-requires (λ c. search needs) returns (λ c. search needs) returns-2)

@@ -24,4 +24,6 @@ returns c =
     renamed-as _ _ _ _ _ _ _ (at-tag .piece-tag .ensures .0) (at-suffix .put-suffix .ensures .0) (at-rename .rename .ensures)
 
 pub name-first-spec : {M : Type 1} → statement M
-name-first-spec = tie.close (tie.spec (λ c. search needs) (λ c κs. search needs) (λ c κs. search needs) (λ c. search needs) slice-aggregate-rename rename-requires (λ c. search needs) returns)
+name-first-spec = tie.close (tie.spec
+    (λ c. search needs) (λ c κs. search needs) (λ c κs. search needs) (λ c. search needs) slice-aggregate-rename rename-requires (λ c.
+    search needs) returns)

@@ -12,4 +12,5 @@ returns-2 : tie.Need-returns-2
 returns-2 c = let a = c .before .args in rw (le-ltb (a .k) (a .rest) (c .if1 .left)) refl
 
 pub piece-size-spec : {M : Type 1} → statement M
-piece-size-spec = tie.close (tie.spec (λ c. search needs) returns returns-2)
+piece-size-spec = tie.close (tie.spec
+    (λ c. search needs) returns returns-2)

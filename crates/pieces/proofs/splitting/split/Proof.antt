@@ -37,5 +37,5 @@ pub split-spec : {M : Type 1} → statement M
 split-spec =
     tie.close
     (tie.spec
-    Inv-loop μ-loop (λ c. (omega arith, omega arith, dividing-none _ _ _ _ _ _)) (λ c. omega arith) (λ c. omega arith) (λ c κs. search needs) split-off-requires (λ c. omega arith)
-    (λ c. omega arith) loop-again (λ c κs. search needs) (λ c. omega arith) returns)
+    Inv-loop μ-loop (λ c. (omega arith, omega arith, dividing-none _ _ _ _ _ _)) (λ c. omega arith) (λ c. omega arith) (λ c κs. search
+    needs) split-off-requires (λ c. omega arith) (λ c. omega arith) loop-again (λ c κs. search needs) (λ c. omega arith) returns)

@@ -37,4 +37,6 @@ returns c =
     (at-loop .loop .inv .2 ∙ ap (suffixSum n) e, omega arith)
 
 pub suffixes-length-spec : {M : Type 1} → statement M
-suffixes-length-spec = tie.close (tie.spec Inv-loop μ-loop loop-holds (λ c. omega arith) (λ c κs. omega arith) (λ c. omega arith) (λ c. omega arith) (λ c. omega arith) loop-again returns)
+suffixes-length-spec = tie.close (tie.spec
+    Inv-loop μ-loop loop-holds (λ c. omega arith) (λ c κs. omega arith) (λ c. omega arith) (λ c. omega arith) (λ c. omega arith) loop-again
+    returns)

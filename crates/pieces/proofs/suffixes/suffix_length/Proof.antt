@@ -11,4 +11,5 @@ returns-2 : tie.Need-returns-2
 returns-2 c = rw (c .if1 .left) (suffix-other _ _ (c .before .digit-count .ensures .0), omega arith)
 
 pub suffix-length-spec : {M : Type 1} → statement M
-suffix-length-spec = tie.close (tie.spec (λ c κs. search needs) (λ c. search needs) returns (λ c. search needs) returns-2)
+suffix-length-spec = tie.close (tie.spec
+    (λ c κs. search needs) (λ c. search needs) returns (λ c. search needs) returns-2)
