@@ -12,9 +12,10 @@ use Rattle.output.specs.Answers.{Answer, answer, choose, Outcome, Text, Refused
 use Rattle.model.specs.Sets.{Bytes}
 use Rattle.model.specs.Package.{State, empty}
 use Rattle.model.specs.Cutting.{cutMade, cutRefusal}
-use Rattle.model.specs.Calls.{Look, Find, View, Totals, Change, Call, Start, Looks, Changes, CutPart, Prints, done, refused, pick, changed}
+use Rattle.model.specs.Calls.{Look, Find, View, Totals, Change, Call, Start, Looks, Changes, CutPart, TypeOrigin, Prints, done, refused, pick, changed}
 use Rattle.model.specs.Calls.{startRefusal, askedRefusal, changeRefusal, changeMade, look, change, cut, printed, valueCount, step, lent}
 use Rattle.output.proofs.Answering.{filled-kept}
+use Rattle.model.proofs.Origins.{origin-kept}
 
 -- of two answers, one of which is 0 and the other keeps the package and writes nothing
 either-kept : (b : Bool) (a r : Answer) (S T : State) → a .number ≡ 0 → r .output ≡ [] → (pick b (a, T) (r, S) .0 .number ≡ 0 → ⊥) →
@@ -55,6 +56,7 @@ refusal-kept room S (Start C) h = changed-kept (startRefusal room C) S (empty C)
 refusal-kept room S (Looks q) h = (refl, look-kept S q h)
 refusal-kept room S (Changes c) h = change-kept S c h
 refusal-kept room S (CutPart name n) h = cut-kept S name n h
+refusal-kept room S (TypeOrigin name output) h = (refl, origin-kept S name output h)
 refusal-kept room S (Prints p out) h = (refl, filled-kept (valueCount p) out (printed S (length out) p) h)
 
 -- an output has as many bytes after the call as before it

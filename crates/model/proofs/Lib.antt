@@ -24,6 +24,7 @@ pub mod PieceBytes
 pub mod Wholes
 pub mod CutRefusals
 pub mod Cutting
+pub mod Origins
 pub mod CutRuns
 pub mod Steps
 pub mod Kept
@@ -37,6 +38,7 @@ pub mod GroupAnswers
 pub mod Inverses
 pub mod Demands
 pub mod CuttingDemands
+pub mod OriginDemands
 pub mod Neighbours
 pub mod Slashes
 pub mod FreshPuts

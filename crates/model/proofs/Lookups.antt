@@ -2,11 +2,12 @@
 -- Assumes nothing.
 use Prim.Native.Nat.{ℕ, _+_}
 use mathlib.Core.Path.{_≡_, refl, ap, ap₂, sym, _∙_, subst}
+use mathlib.Core.Logic.{inl, inr}
 use mathlib.Core.Bool.{Bool, true, false, cond, true≢false}
 use mathlib.Core.List.{List, [], _∷_}
 use mathlib.Core.Option.{none, some, Option·none-ne-some, Option·some-injective}
 use native.Mathlib.Omega.{arith}
-use Rattle.model.specs.Sets.{Key, before, sameKey, sumOf, lookup, insert, remove, Each, Sorted}
+use Rattle.model.specs.Sets.{Key, before, sameKey, sumOf, lookup, insert, remove, Each, OneOf, Sorted}
 use Rattle.model.proofs.Lists.{each-map}
 use Rattle.model.proofs.KeyOrders.{same-before, before-trans, before-turn, same-key-refl, before-not-same, same-key-trans}
 
@@ -130,6 +131,16 @@ module _ {E : Type 0} (key : E → Key) where
       go : (b : Bool) → cond b (some x) (lookup key k xs) ≡ some e → (lookup key k xs ≡ some e → P e) → P e
       go true h ih = subst P (Option·some-injective x e h) (p .0)
       go false h ih = ih h
+
+  -- it is one of them
+  pub lookup-one : (k : Key) (xs : List E) (e : E) → lookup key k xs ≡ some e → OneOf e xs
+  unfolding lookup
+  lookup-one k [] e h = absurd (Option·none-ne-some e h)
+  lookup-one k (x ∷ xs) e h = go (sameKey k (key x)) h (lookup-one k xs e)
+    where
+      go : (b : Bool) → cond b (some x) (lookup key k xs) ≡ some e → (lookup key k xs ≡ some e → OneOf e xs) → OneOf e (x ∷ xs)
+      go true h ih = inl (sym (Option·some-injective x e h))
+      go false h ih = inr (ih h)
 
   -- what a removal takes away
   pub sum-removed : (f : E → ℕ) (k : Key) (xs : List E) (e : E) → lookup key k xs ≡ some e → sumOf f (remove key k xs) + f e ≡ sumOf f xs

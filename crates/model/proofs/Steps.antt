@@ -13,7 +13,7 @@ use Rattle.model.specs.Sets.{Bytes, Key, sameKey, sumOf, insert, remove,
 use Rattle.model.specs.Fields.{prefixOf, suffixOf}
 use Rattle.model.specs.Package.{Item, State, Kind, itemKind, defaultKind, overrideKind, relationshipKind, empty, charge, group, disagrees, grows, itemKey, nameKey, relationshipKey, keyOfItem}
 use Rattle.model.specs.Cutting.{cutMade, cutRefusal}
-use Rattle.model.specs.Calls.{Call, Start, Looks, Changes, CutPart, Prints, capacityLimit, overhead, startRefusal, cut, step, after, Change}
+use Rattle.model.specs.Calls.{Call, Start, Looks, Changes, CutPart, TypeOrigin, Prints, capacityLimit, overhead, startRefusal, cut, step, after, Change}
 use Rattle.model.specs.Calls.{PutItem, DropItem, PutDefault, DropDefault, PutOverride, DropOverride, PutRelationship}
 use Rattle.model.specs.Calls.{DropRelationship, JoinPart, putRefusal, putIn, takenOut, misfits, changeRefusal, changeMade, change}
 use Rattle.model.specs.Calls.{putItemRefusal, putDefaultRefusal, putOverrideRefusal, putRelationshipRefusal}
@@ -140,6 +140,7 @@ step-good room S (Start C) g = changed-good (startRefusal room C) S (empty C) g 
 step-good room S (Looks q) g = g
 step-good room S (Changes c) g = change-good S c g
 step-good room S (CutPart name n) g = cut-step-good S name n g
+step-good room S (TypeOrigin name output) g = g
 step-good room S (Prints p out) g = g
 
 pub after-good : (room : ℕ) (S : State) (cs : List Call) → Good S → Good (after room S cs)

@@ -15,9 +15,10 @@ use Rattle.model.specs.Sets.{Bytes, Key, held, any, lookup, insert, remo
 use Rattle.model.specs.Fields.{when, first, prefixOf, suffixOf, askedField, itemField, partField, extensionField, sourceField, idField, packageField}
 use Rattle.model.specs.Package.{Item, Default, Override, Relationship, State, empty, charge, Kind, itemKind, defaultKind}
 use Rattle.model.specs.Package.{overrideKind, relationshipKind, itemKey, nameKey, relationshipKey, keyOfItem, keyOfRelationship}
-use Rattle.model.specs.Package.{group, isPart, content, spelling, parts, disagrees, grows, itemAt, mediaTypeOf}
+use Rattle.model.specs.Package.{group, isPart, content, spelling, parts, noPart, partRefusal, disagrees, grows, itemAt, mediaTypeOf}
 use Rattle.model.specs.Texts.{typesText, relationshipsText}
 use Rattle.model.specs.Cutting.{quotient, rest, cutMade, joinMade, cutRefusal, joinRefusal}
+use Rattle.model.specs.TypeOrigin.{typeOrigin}
 
 -- a call that only looks
 pub data Look : Type 0 where
@@ -53,6 +54,7 @@ pub data Call : Type 0 where
   Looks : Look → Call
   Changes : Change → Call
   CutPart : (name : Bytes) (n : ℕ) → Call
+  TypeOrigin : (name output : Bytes) → Call
   Prints : Print → (output : Bytes) → Call
 
 -- "An accepted call answers 0 and its value, or 0 and 0 where none is named"
@@ -220,10 +222,6 @@ look S (View name) = choose (eqb (askedRefusal S name) 0) (answer 0 [] (bytesOf 
 look S Totals = answer 0 (length (S .items) ∷ length (parts (S .items)) ∷ charge S ∷ []) []
 
 -- PRINTS
--- "13 not held, no part yet"
-abbrev pub noPart : State → Bytes → ℕ
-noPart S name = when (not (isPart (group name (S .items)))) 13
-
 abbrev pub textOf : Option Bytes → Bytes
 textOf none = []
 textOf (some t) = t
@@ -244,7 +242,7 @@ resolved S base (some r) =
 unfoldable pub printed : State → ℕ → Print → Outcome
 -- "read part(name, offset): the content from there, as much as the output takes; none past its end"
 printed S size (ReadPart name offset) =
-    unless (first (partField name ∷ noPart S name ∷ [])) (Text (take size (drop offset (content (group name (S .items))))) [])
+    unless (partRefusal S name) (Text (take size (drop offset (content (group name (S .items))))) [])
 -- "media type of a part: its Override, else the Default of its extension, copied out"; "14 no media type"
 printed S size (MediaType name) =
     unless (first (partField name ∷ noPart S name ∷ when (not (held (mediaTypeOf name S))) 14 ∷ [])) (Text (textOf (mediaTypeOf name S)) [])
@@ -275,6 +273,8 @@ step room S (Start C) = changed (startRefusal room C) S (empty C)
 step room S (Looks q) = (look S q, S)
 step room S (Changes c) = change S c
 step room S (CutPart name n) = cut S name n
+-- "The package keeps its bytes."
+step room S (TypeOrigin name output) = (typeOrigin S name output, S)
 step room S (Prints p output) = (filled (valueCount p) output (printed S (length output) p), S)
 
 -- A LIST OF CALLS: every answer, and the package after the last. "Each call of a list is lent the package as the call before left it, in
@@ -293,4 +293,5 @@ lent (Start C) = []
 lent (Looks q) = []
 lent (Changes c) = []
 lent (CutPart name n) = []
+lent (TypeOrigin name output) = output
 lent (Prints p output) = output

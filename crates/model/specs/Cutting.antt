@@ -11,7 +11,7 @@ use Rattle.names.specs.Items.{spelled}
 use Rattle.names.specs.declared.items.Suffix.the-variants.{Whole, Piece}
 use Rattle.model.specs.Sets.{Bytes, any, filter, insert}
 use Rattle.model.specs.Fields.{when, first, prefixOf, suffixOf, whole, partField}
-use Rattle.model.specs.Package.{Item, State, itemKind, itemLimit, keyOfItem, charge, group, isPart, content, spelling}
+use Rattle.model.specs.Package.{Item, State, itemKind, itemLimit, keyOfItem, charge, group, noPart, content, spelling}
 
 -- A part that is one whole item; any other part is in pieces
 unfoldable pub isWhole : List Item → Bool
@@ -69,7 +69,7 @@ unfoldable pub cutRefusal : State → Bytes → ℕ → ℕ
 cutRefusal S name n =
     first
     (partField name
-    ∷ when (not (isPart (group name (S .items)))) 13
+    ∷ noPart S name
     ∷ when (not (isWhole (group name (S .items)))) 18
     ∷ when (not (within 1 256 n)) 17
     ∷ when (overfull (cutMade S name n)) 15
@@ -80,7 +80,7 @@ unfoldable pub joinRefusal : State → Bytes → ℕ
 joinRefusal S name =
     first
     (partField name
-    ∷ when (not (isPart (group name (S .items)))) 13
+    ∷ noPart S name
     ∷ when (isWhole (group name (S .items))) 18
     ∷ [])
 

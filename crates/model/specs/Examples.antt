@@ -11,8 +11,8 @@ use Rattle.output.specs.Answers.{Answer, answer}
 use Rattle.targets.specs.Targets.{resolvePath}
 use Rattle.model.specs.Sets.{Bytes}
 use Rattle.model.specs.Package.{Item, empty}
-use Rattle.model.specs.Calls.{Call, Start, Looks, Changes, CutPart, Prints, Find, Totals, PutItem, DropItem, PutDefault, PutOverride}
-use Rattle.model.specs.Calls.{PutRelationship, JoinPart, ReadPart, MediaType, PartAt, ResolveRelationship, WriteTypes, WriteRelationships, done}
+use Rattle.model.specs.Calls.{Call, Start, Looks, Changes, CutPart, TypeOrigin, Prints, Find, Totals, PutItem, DropItem, PutDefault}
+use Rattle.model.specs.Calls.{DropDefault, PutOverride, DropOverride, PutRelationship, JoinPart, ReadPart, MediaType, PartAt, ResolveRelationship, WriteTypes, WriteRelationships, done}
 use Rattle.model.specs.Calls.{refused, overhead, answers, after}
 use Rattle.model.specs.Texts.{line}
 use Rattle.model.specs.Sheet.{sheet}
@@ -247,3 +247,43 @@ divisions =
 pub divisions-hold : Holds divisions
 unfolding divisions everything
 divisions-hold = refl
+
+-- how the type of this part was arrived at, lent this output; the kind, the key's length and the output then
+abbrev pub argues : String → String → Call
+argues name out = TypeOrigin (ascii name) (ascii out)
+
+abbrev pub by : ℕ → ℕ → String → Answer
+by kind n out = answer 0 (kind ∷ n ∷ []) (ascii out)
+
+abbrev pub unargued : ℕ → ℕ → String → Answer
+unargued k n out = answer k (n ∷ 0 ∷ []) (ascii out)
+
+abbrev pub overrides : String → Call
+overrides name = Changes (PutOverride (ascii name) (ascii "o/o"))
+
+abbrev pub defaults : String → Call
+defaults extension = Changes (PutDefault (ascii extension) (ascii "d/d"))
+
+-- document 02, 3: the Override, else the Default, else neither, each key as it was put; an output that is longer, exact, one byte short, and
+-- none. A name without a dot, one with its dot in an earlier segment, one whose last segment begins with it. A part in pieces. 4; 13 for no
+-- part, for an unfinished group, and for a name that has an Override only, also where no output is lent
+unfoldable pub origins : List Row
+origins =
+    calls
+    (put "/A.png" ∷ argues "/a.PNG" "......" ∷ argues "/a.PNG" "" ∷ defaults "pNg" ∷ argues "/a.PNG" "......" ∷ overrides "/a.Png" ∷ argues "/A.png" "........"
+    ∷ argues "/A.png" "......" ∷ argues "/A.png" "....." ∷ Changes (DropOverride (ascii "/a.png")) ∷ argues "/A.png" "..." ∷ argues "/A.png" ".."
+    ∷ Changes (DropDefault (ascii "png")) ∷ argues "/A.png" "" ∷ [])
+    (done ∷ by 0 0 "......" ∷ by 0 0 "" ∷ done ∷ by 1 3 "pNg..." ∷ done ∷ by 2 6 "/a.Png.."
+    ∷ by 2 6 "/a.Png" ∷ unargued 3 6 "....." ∷ done ∷ by 1 3 "pNg" ∷ unargued 3 3 ".."
+    ∷ done ∷ by 0 0 "" ∷ [])
+    ∷ calls (defaults "b" ∷ put "/b" ∷ put "/a.b/c" ∷ put "/a/.b" ∷ argues "/b" ".." ∷ argues "/a.b/c" ".." ∷ argues "/a/.b" ".." ∷ [])
+    (done ∷ done ∷ done ∷ done ∷ by 0 0 ".." ∷ by 0 0 ".." ∷ by 1 1 "b." ∷ [])
+    ∷ calls (put "/t.x/[0].piece" ∷ defaults "x" ∷ argues "/t.x" ".." ∷ put "/t.x/[1].last.piece" ∷ argues "/T.X" ".." ∷ [])
+    (done ∷ done ∷ unargued 13 0 ".." ∷ done ∷ by 1 1 "x." ∷ [])
+    ∷ calls (overrides "/a" ∷ argues "/a" "" ∷ argues "a" ".." ∷ argues "/a/[0].piece" "" ∷ put "/a" ∷ argues "/A" ".." ∷ typed "/A" ∷ [])
+    (done ∷ unargued 13 0 "" ∷ unargued 4 0 ".." ∷ unargued 4 0 "" ∷ done ∷ by 2 2 "/a" ∷ answer 0 (3 ∷ []) (ascii "o/o.....") ∷ [])
+    ∷ []
+
+pub origins-hold : Holds origins
+unfolding origins everything
+origins-hold = refl

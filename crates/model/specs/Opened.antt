@@ -22,6 +22,7 @@ use Rattle.model.specs.Fields.{first, prefixOf, suffixOf, itemField, def
 use Rattle.model.specs.Package.{charge, group, completeFrom, isPart, content, spelling, leaders, parts, itemAt, mediaTypeOf}
 use Rattle.model.specs.Texts.{quoted, typesText, relationshipsText}
 use Rattle.model.specs.Cutting.{isWhole, piecesFrom, pieces, withAll, cutRefusal, joinRefusal}
+use Rattle.model.specs.TypeOrigin.{originOf, keyed, typeOrigin}
 use Rattle.model.specs.Calls.{startRefusal, clash, putItemRefusal, dropItemRefusal, putDefaultRefusal, dropDefaultRefusal}
 use Rattle.model.specs.Calls.{putOverrideRefusal, dropOverrideRefusal, putRelationshipRefusal, dropRelationshipRefusal, change, cut}
 use Rattle.model.specs.Calls.{askedRefusal, look, resolved, printed, answers, after}
@@ -40,5 +41,6 @@ unfolding digit letter hexDigit unreserved segmentByte continuation member same 
     relationshipFields charge group completeFrom isPart content spelling leaders parts itemAt mediaTypeOf quoted typesText
     relationshipsText startRefusal clash putItemRefusal dropItemRefusal putDefaultRefusal dropDefaultRefusal putOverrideRefusal
     isWhole piecesFrom pieces withAll cutRefusal joinRefusal dropOverrideRefusal putRelationshipRefusal dropRelationshipRefusal
-    change cut askedRefusal look resolved printed filled answers after withoutEmptyEnd lineRead listing shown sheet
+    change cut originOf keyed typeOrigin askedRefusal look resolved printed filled answers after withoutEmptyEnd
+    lineRead listing shown sheet
 everything = tt

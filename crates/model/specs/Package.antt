@@ -11,7 +11,7 @@ use Rattle.names.specs.Names.{extensionAt}
 use Rattle.names.specs.declared.items.Suffix.{Suffix}
 use Rattle.names.specs.declared.items.Suffix.the-variants.{Whole, Piece}
 use Rattle.model.specs.Sets.{Bytes, Key, any, filter, sumOf, lookup}
-use Rattle.model.specs.Fields.{prefixOf, suffixOf, whole, last, itemField, defaultFields, overrideFields, relationshipFields}
+use Rattle.model.specs.Fields.{when, first, prefixOf, suffixOf, whole, last, itemField, partField, defaultFields, overrideFields, relationshipFields}
 
 -- STATE. "four sets: items (item name, bytes), Defaults (extension, type), Overrides (part name, type), relationships"
 pub record Item : Type 0 where
@@ -198,6 +198,14 @@ completeFrom k (i ∷ j ∷ is) = eqb (rank (suffixOf (i .name))) (suc k) && not
 -- "A group is a part if it is one whole item, or pieces 0 to n with n the last."; "held .. a part while its items make it one"
 unfoldable pub isPart : List Item → Bool
 isPart g = eqb (length g) 1 && any (λ (i : Item). whole (suffixOf (i .name))) g || completeFrom 0 g
+
+-- "13 not held, no part yet"
+abbrev pub noPart : State → Bytes → ℕ
+noPart S name = when (not (isPart (group name (S .items)))) 13
+
+-- a part that is asked for: 4, then 13
+abbrev pub partRefusal : State → Bytes → ℕ
+partRefusal S name = first (partField name ∷ noPart S name ∷ [])
 
 -- "Its content is the pieces joined by number"
 unfoldable pub content : List Item → Bytes

@@ -2,6 +2,7 @@
 -- Assumes nothing.
 use Prim.Native.Nat.{ℕ, _+_}
 use mathlib.Core.Path.{_≡_}
+use mathlib.Core.Logic.{_⊎_}
 use mathlib.Core.Bool.{Bool, true, false, _||_, cond}
 use mathlib.Core.List.{List, [], _∷_}
 use mathlib.Core.Option.{Option, none, some}
@@ -80,6 +81,11 @@ module _ {E : Type 0} where
   abbrev pub Each : (E → Type 0) → List E → Type 0
   Each P [] = Unit {0}
   Each P (x ∷ xs) = P x × Each P xs
+
+  -- the entry is one of these
+  abbrev pub OneOf : E → List E → Type 0
+  OneOf e [] = ⊥
+  OneOf e (x ∷ xs) = (e ≡ x) ⊎ OneOf e xs
 
   -- of every two entries, the earlier one first
   abbrev pub AllPairs : (E → E → Type 0) → List E → Type 0
