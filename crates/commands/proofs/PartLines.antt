@@ -24,6 +24,7 @@ use Rattle.parts.specs.Runs.{run, Judged}
 use Rattle.parts.specs.Copies.{Measured}
 use Rattle.parts.proofs.OutputCopies.{run-cons}
 use Rattle.types.specs.TypeRows.{Typed}
+use Rattle.types.proofs.TypeLookups.{typed-found, typed-missing}
 use Rattle.lines.specs.Printing.{typeGiven, partText}
 use Rattle.lines.proofs.Sends.{part-line, type-given, type-length, part-text-length}
 use Rattle.commands.specs.Listings.{ShortField, TypeText, PartSent, GroupSent}
@@ -42,7 +43,7 @@ module _ (b name : Bytes) (r : ℕ) (t : Typed b name r) (m : ℕ) (em : m ≡ c
   type-found l s f = record {
     few = f .few;
     is = λ S h.
-        let e = t .found S h (omega arith) in
+        let e = typed-found b name r t S h (omega arith) in
         let z = type-size S (h .good) name (fieldOf (rowAt b r) 1) e in
         let k : s ≡ fieldOf (rowAt b r) 1 = f .is (h .lies .sound) (omega arith) (z .1) in
         let n : length s ≡ length (fieldOf (rowAt b r) 1) = ap length k in
@@ -50,7 +51,7 @@ module _ (b name : Bytes) (r : ℕ) (t : Typed b name r) (m : ℕ) (em : m ≡ c
   }
 
   pub type-missing : m ≤ r → TypeText b name []
-  type-missing l = record { few = omega arith; is = λ S h. sym (t .missing S h (omega arith)) }
+  type-missing l = record { few = omega arith; is = λ S h. sym (typed-missing b name r t S h (omega arith)) }
 
 -- THE LINE
 same-text : (p q k l : ℕ) (s t : Bytes) (o u : Option Bytes) → p ≡ q → k ≡ l → s ≡ t → o ≡ u → partText p k s o ≡ partText q l t u

@@ -9,7 +9,7 @@ use Rattle.output.specs.Answers.{Answer, answer, refusing}
 use Rattle.output.proofs.Answering.{refusing-is}
 use Rattle.model.specs.Fields.{when}
 use Rattle.model.specs.Package.{State}
-use Rattle.model.specs.Calls.{Find, View, Totals, Call, Start, Looks, Changes, CutPart, Prints, lent}
+use Rattle.model.specs.Calls.{Find, View, Totals, Call, Start, Looks, Changes, CutPart, TypeOrigin, Prints, lent}
 use Rattle.store.specs.Packages.{isPackage}
 use Rattle.store.proofs.PackageTest.{sound-package, package-shape}
 use Rattle.contract.specs.Holds.{Holds}
@@ -60,6 +60,7 @@ turnedBy n (Looks (View name)) = answer 0 [] []
 turnedBy n (Looks Totals) = refusing n (turnedAway n (Looks Totals))
 turnedBy n (Changes c) = refusing n (turnedAway n (Changes c))
 turnedBy n (CutPart name k) = refusing n (turnedAway n (CutPart name k))
+turnedBy n (TypeOrigin name output) = refusing n (turnedAway n (TypeOrigin name output))
 turnedBy n (Prints w output) = refusing n (turnedAway n (Prints w output))
 
 turned-is : (c : Call) (n : ℕ) → (n ≡ 0 → ⊥) → turnedBy n c ≡ turnedAway n c
@@ -69,6 +70,7 @@ turned-is (Looks (View name)) n z = refl
 turned-is (Looks Totals) n z = refusing-is n z _
 turned-is (Changes c) n z = refusing-is n z _
 turned-is (CutPart name k) n z = refusing-is n z _
+turned-is (TypeOrigin name output) n z = refusing-is n z _
 turned-is (Prints w output) n z = refusing-is n z _
 
 turned-output : (c : Call) (n : ℕ) → turnedAway n c .output ≡ lent c
@@ -78,13 +80,15 @@ turned-output (Looks (View name)) n = refl
 turned-output (Looks Totals) n = refl
 turned-output (Changes c) n = refl
 turned-output (CutPart name k) n = refl
+turned-output (TypeOrigin name output) n = refl
 turned-output (Prints w output) n = refl
 
-none-begun : (c : Call) → starts c ≡ false → (p : List ℕ) (a : Answer) (q : List ℕ) → Begun c p a q
+pub none-begun : (c : Call) → starts c ≡ false → (p : List ℕ) (a : Answer) (q : List ℕ) → Begun c p a q
 none-begun (Start C) s p a q = absurd (true≢false s)
 none-begun (Looks l) s p a q = tt
 none-begun (Changes c) s p a q = tt
 none-begun (CutPart name n) s p a q = tt
+none-begun (TypeOrigin name output) s p a q = tt
 none-begun (Prints w output) s p a q = tt
 
 -- every call but start that answers by that number, with zeros, or with the empty view

@@ -14,8 +14,9 @@ use Rattle.model.specs.Sets.{Bytes}
 use Rattle.model.specs.Fields.{when}
 use Rattle.model.specs.Package.{State, empty}
 use Rattle.model.specs.Cutting.{cutRefusal}
-use Rattle.model.specs.Calls.{Look, Find, View, Totals, Change, Print, Call, Start, Looks, Changes, CutPart, Prints, done, refused, changed}
-use Rattle.model.specs.Calls.{Numbered, capacityLimit, overhead, startRefusal, look, change, changeRefusal, changeMade, cut, printed, valueCount}
+use Rattle.model.specs.TypeOrigin.{typeOrigin}
+use Rattle.model.specs.Calls.{Look, Find, View, Totals, Change, Print, Call, Start, Looks, Changes, CutPart, TypeOrigin, Prints, done, refused, changed}
+use Rattle.model.specs.Calls.{Numbered, capacityLimit, overhead, startRefusal, look, change, changeRefusal, changeMade, cut, printed, valueCount, step, lent}
 use Rattle.model.proofs.Numbers.{zero-numbered, change-numbered}
 use Rattle.model.proofs.Steps.{change-good, cut-step-good}
 use Rattle.model.proofs.CutRefusals.{cut-refused}
@@ -27,34 +28,38 @@ use Rattle.contract.specs.declared.answers.Cut.the-variants as cuts
 use Rattle.contract.specs.Ran.{Ran, noPackage, starts}
 use Rattle.contract.specs.Opening.{Open}
 use Rattle.model.proofs.Refusals.{changed-done}
+use Rattle.contract.proofs.Opening.{none-begun}
 
 -- bytes that are let in are not foreign
 passed : (p : List ℕ) → Open p → isPackage p ≡ false → {A : Type 0} → A
 passed p o f = absurd (true≢false (sym (o .tested) ∙ f))
 
 module _ (p : List ℕ) (o : Open p) where
-  -- a call that only looks
-  pub looked : (q : Look) (a : Answer) → Numbered (a .number) → ((a .number ≡ 0 → ⊥) → a .output ≡ []) → ((S : State) → Holds p S → a ≡ look S q) → Ran (Looks q) p a p
-  looked q a n k e = record {
-    ledger = λ S h. (e S h, h);
+  -- a call that keeps the package
+  keeping : (c : Call) → starts c ≡ false → ((S : State) → step (length p) S c .1 ≡ S) → (a : Answer) → Numbered (a .number) →
+      ((a .number ≡ 0 → ⊥) → a .output ≡ lent c) → ((S : State) → Holds p S → a ≡ step (length p) S c .0) → Ran c p a p
+  keeping c s u a n k e = record {
+    ledger = λ S h. (e S h, subst (Holds p) (sym (u S)) h);
     kept = λ r. (refl, k r);
     foreign = λ _ f. passed p o f;
     numbered = λ _ _. n;
-    begun = tt;
+    begun = none-begun c s p a p;
     sized = refl;
   }
 
-  -- a call that writes into its output
+  -- one that only looks
+  pub looked : (q : Look) (a : Answer) → Numbered (a .number) → ((a .number ≡ 0 → ⊥) → a .output ≡ []) → ((S : State) → Holds p S → a ≡ look S q) → Ran (Looks q) p a p
+  looked q = keeping (Looks q) refl (λ S. refl)
+
+  -- one that tells how a media type was arrived at
+  pub traced : (name output : Bytes) (a : Answer) → Numbered (a .number) → ((a .number ≡ 0 → ⊥) → a .output ≡ output) →
+      ((S : State) → Holds p S → a ≡ typeOrigin S name output) → Ran (TypeOrigin name output) p a p
+  traced name output = keeping (TypeOrigin name output) refl (λ S. refl)
+
+  -- one that writes into its output
   pub wrote : (w : Print) (output : List ℕ) (a : Answer) → Numbered (a .number) → ((a .number ≡ 0 → ⊥) → a .output ≡ output) →
       ((S : State) → Holds p S → a ≡ filled (valueCount w) output (printed S (length output) w)) → Ran (Prints w output) p a p
-  wrote w output a n k e = record {
-    ledger = λ S h. (e S h, h);
-    kept = λ r. (refl, k r);
-    foreign = λ _ f. passed p o f;
-    numbered = λ _ _. n;
-    begun = tt;
-    sized = refl;
-  }
+  wrote w output = keeping (Prints w output) refl (λ S. refl)
 
   -- a change that is refused
   pub change-refused : (c : Change) (n : ℕ) → Numbered n → ((S : State) → Holds p S → change S c ≡ (refused n, S)) → Ran (Changes c) p (refused n) p
@@ -168,6 +173,7 @@ foreign-small (Looks (View name)) = omega arith
 foreign-small (Looks Totals) = omega arith
 foreign-small (Changes c) = omega arith
 foreign-small (CutPart name n) = omega arith
+foreign-small (TypeOrigin name output) = omega arith
 foreign-small (Prints w output) = omega arith
 
 tested : (c : Call) (p : List ℕ) (a : Answer) (q : List ℕ) → Ran c p a q → starts c ≡ false → a .number ≤ 18
@@ -186,6 +192,7 @@ ran-number (Start C) p a q r = go (eqb (startRefusal (length p) C) 0) refl
 ran-number (Looks l) p a q r = tested (Looks l) p a q r refl
 ran-number (Changes c) p a q r = tested (Changes c) p a q r refl
 ran-number (CutPart name n) p a q r = tested (CutPart name n) p a q r refl
+ran-number (TypeOrigin name output) p a q r = tested (TypeOrigin name output) p a q r refl
 ran-number (Prints w output) p a q r = tested (Prints w output) p a q r refl
 
 pub answered : (c : Call) (p : List ℕ) (a : Answer) (q : List ℕ) → Ran c p a q → a ≡ unanswered → ⊥

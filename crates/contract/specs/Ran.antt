@@ -7,7 +7,7 @@ use mathlib.Core.List.{List, [], _∷_}
 use lib.ListN.{length, replicate}
 use Rattle.output.specs.Answers.{Answer, answer}
 use Rattle.model.specs.Package.{State, empty}
-use Rattle.model.specs.Calls.{Find, View, Totals, Call, Start, Looks, Changes, CutPart, Prints, done, refused, Numbered, startRefusal, step, valueCount, lent}
+use Rattle.model.specs.Calls.{Find, View, Totals, Call, Start, Looks, Changes, CutPart, TypeOrigin, Prints, done, refused, Numbered, startRefusal, step, valueCount, lent}
 use Rattle.store.specs.Packages.{isPackage}
 use Rattle.contract.specs.Holds.{Holds}
 
@@ -19,6 +19,7 @@ turnedAway n (Looks (View name)) = answer 0 [] []
 turnedAway n (Looks Totals) = answer n (0 ∷ 0 ∷ 0 ∷ []) []
 turnedAway n (Changes c) = refused n
 turnedAway n (CutPart name k) = answer n (0 ∷ 0 ∷ []) []
+turnedAway n (TypeOrigin name output) = answer n (0 ∷ 0 ∷ []) output
 turnedAway n (Prints p output) = answer n (replicate (valueCount p) 0) output
 
 -- "1 the buffer is no package". (A start is never asked this: it minds no bytes.)
@@ -30,6 +31,7 @@ starts (Start C) = true
 starts (Looks q) = false
 starts (Changes c) = false
 starts (CutPart name n) = false
+starts (TypeOrigin name output) = false
 starts (Prints p output) = false
 
 -- a start minds no bytes: it makes an empty package of any buffer that has room for it, or refuses
@@ -38,6 +40,7 @@ Begun (Start C) p a q = (startRefusal (length p) C ≡ 0 → (a ≡ done) × Hol
 Begun (Looks l) p a q = Unit {0}
 Begun (Changes c) p a q = Unit {0}
 Begun (CutPart name n) p a q = Unit {0}
+Begun (TypeOrigin name output) p a q = Unit {0}
 Begun (Prints w output) p a q = Unit {0}
 
 -- THE PROMISE of every call. It ran on the lent bytes p, answered a, and left the bytes q. The program has one choice, what it answers where

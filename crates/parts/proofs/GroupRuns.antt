@@ -8,11 +8,13 @@ use native.Mathlib.Omega.{arith}
 use lib.Dec.{eqb}
 use lib.ListN.{length, getD, drop, length-drop, drop-of-length-le}
 use lib.Seq.{length-take-le, getD-take, getD-drop}
+use borrow.Author.Tests.{not-true, not-false}
 use Rattle.chars.specs.Folding.{fold, equivalent, order}
 use Rattle.chars.proofs.Equivalence.{equivalent-fold, fold-equivalent}
 use Rattle.model.specs.Sets.{Bytes, before, any, Each, AllPairs, Sorted}
 use Rattle.model.specs.Places.{firstWhere, bound, lead}
-use Rattle.model.specs.Fields.{prefixOf}
+use Rattle.names.specs.Names.{partName}
+use Rattle.model.specs.Fields.{first, prefixOf}
 use Rattle.model.specs.Package.{noItem, Item, State, rank, keyOfItem, completeFrom, isPart, disagrees}
 use Rattle.model.specs.Good.{Beside}
 use Rattle.model.proofs.Lists.{pairs-map, pairs-drop, pairs-take, pairs-both, pairs-each}
@@ -20,6 +22,7 @@ use Rattle.model.proofs.Walks.{first-le, walk-step, walk-stop, lead-take}
 use Rattle.model.proofs.KeyOrders.{goes-on-less}
 use Rattle.model.proofs.Keys.{number-less}
 use Rattle.model.proofs.Groups.{group-run}
+use Rattle.model.proofs.Numbers.{numbered, zero-numbered}
 use Rattle.store.specs.Layout.{slotCount, countOf}
 use Rattle.store.specs.Rows.{rowAt, tagAt, fieldOf}
 use Rattle.store.specs.Packages.{Shape, Sound}
@@ -27,7 +30,7 @@ use Rattle.contract.specs.Rows.{keyIn}
 use Rattle.contract.specs.Holds.{Holds}
 use Rattle.contract.specs.Searches.{Bounded, Counted}
 use Rattle.contract.proofs.ItemRows.{items-le, item-tag, item-prefix, item-bound}
-use Rattle.parts.specs.Runs.{run, inGroup, Ending, Ended, Judged, Grouped, PartOf}
+use Rattle.parts.specs.Runs.{run, inGroup, Ending, Ended, Judged, Grouped, PartOf, PartRefused}
 use Rattle.parts.proofs.LastItems.{mark, tagIn, Ascending, Agreeing, part-told}
 
 -- ITEMS OF ONE GROUP stand by number, and agree
@@ -128,3 +131,18 @@ module _ (b : List ℕ) (p : Bytes) where
 
   pub part-of : (f t : ℕ) → Grouped b p f t → (z : Bool) → Judged b f t z → PartOf b p z
   part-of f t g z j = record { is = λ S h. j .is S h (g .inside S h) p (g .alike S h) ∙ ap isPart (sym (g .is S h)) }
+
+  -- THE REFUSAL of a part that is asked for; q is the test of its name, y whether the group is a part
+  module _ (q : Bool) (eq : q ≡ partName p) where
+    pub refused-name : not q ≡ true → PartRefused b p 4
+    unfolding first
+    refused-name hq = record { numbered = numbered 4 (omega arith) (omega arith); is = λ S h. rw (← eq, not-true q hq) }
+
+    module _ (hq : not q ≡ false) (y : Bool) (ey : PartOf b p y) where
+      pub refused-none : y ≡ true → PartRefused b p 0
+      unfolding first
+      refused-none hy = record { numbered = zero-numbered; is = λ S h. rw (← eq, not-false q hq, ← ey .is S h, hy) }
+
+      pub refused-part : y ≡ false → PartRefused b p 13
+      unfolding first
+      refused-part hy = record { numbered = numbered 13 (omega arith) (omega arith); is = λ S h. rw (← eq, not-false q hq, ← ey .is S h, hy) }

@@ -10,7 +10,8 @@ use Rattle.chars.specs.Folding.{equivalent}
 use Rattle.model.specs.Sets.{Bytes, Each}
 use Rattle.model.specs.Places.{lead}
 use Rattle.model.specs.Fields.{prefixOf}
-use Rattle.model.specs.Package.{Item, State, group, isPart}
+use Rattle.model.specs.Package.{Item, State, group, isPart, partRefusal}
+use Rattle.model.specs.Calls.{Numbered}
 use Rattle.store.specs.Layout.{slotCount}
 use Rattle.store.specs.Rows.{rowAt, fieldOf}
 use Rattle.contract.specs.Holds.{Holds}
@@ -56,3 +57,8 @@ pub record Grouped (b : List ℕ) (p : Bytes) (f t : ℕ) : Type 0 where
 -- z tells whether the group p is a part
 pub record PartOf (b : List ℕ) (p : Bytes) (z : Bool) : Type 0 where
   pub is : (S : State) → Holds b S → z ≡ isPart (group p (S .items))
+
+-- k is the refusal of p, asked for as a part, 0 for none
+pub record PartRefused (b : List ℕ) (p : Bytes) (k : ℕ) : Type 0 where
+  pub numbered : Numbered k
+  pub is : (S : State) → Holds b S → k ≡ partRefusal S p

@@ -3,13 +3,14 @@ use chars::folding::is_equivalent;
 use contract::ITEMS;
 use contract::search::bound;
 use contract::search::item_count;
+use names::parts::is_part_name;
 use store::rows::field;
 use store::rows::tag;
 ghost use Prim.Native.Nat.{_+_, _≤_, _<_};
 ghost use Rattle.store.specs.Layout.{slotCount, countOf};
 ghost use Rattle.store.specs.Rows.{rowAt, fieldOf};
 ghost use Rattle.store.specs.Packages.{Shape};
-ghost use Rattle.parts.specs.Runs.{Ended, EndedBehind, Judged, Grouped, PartOf};
+ghost use Rattle.parts.specs.Runs.{Ended, EndedBehind, Judged, Grouped, PartOf, PartRefused};
 
 // Rows that stand side by side: from the first up to, not including, the row `to`.
 pub struct Run {
@@ -101,4 +102,18 @@ pub fn is_part(pkg: &[u8], p: &[u8]) -> bool
     let from = group.from;
     let to = group.to;
     makes_part(pkg, from, to)
+}
+
+// The refusal of a part that is asked for: 4, 13, or 0.
+pub fn part_refusal(pkg: &[u8], name: &[u8]) -> u8
+    requires { ⌜ Shape (now pkg) ⌝ }
+    ensures { λ k. ⌜ PartRefused (now (pkg .entry)) (now (name .entry)) k ⌝ }
+{
+    if !is_part_name(name) {
+        return 4;
+    }
+    if is_part(pkg, name) {
+        return 0;
+    }
+    13
 }

@@ -1,2 +1,3 @@
 pub mod TypeCalls
 pub mod TypeLookups
+pub mod TypeOrigins

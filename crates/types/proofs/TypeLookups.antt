@@ -1,25 +1,28 @@
--- The media type of a name, by the rows of the Overrides and the Defaults; each way out of the call.
+-- The entry that gives a name its media type, by the rows of the Overrides and the Defaults; each way out of the media type call.
 -- Assumes nothing.
 use Prim.Native.Nat.{ℕ, _+_, _-_, _≤_, _<_}
 use mathlib.Core.Path.{_≡_, refl, ap, sym, _∙_, subst}
-use mathlib.Core.Bool.{Bool, true, false, not, cond}
+use mathlib.Core.Bool.{Bool, true, false, cond}
 use mathlib.Core.List.{List, [], _∷_}
 use mathlib.Core.Option.{Option, none, some, Option·none-ne-some, Option·some-injective}
 use native.Mathlib.Omega.{arith}
 use lib.Dec.{eqb}
 use lib.ListN.{length, take, drop, length-drop}
-use borrow.Author.Tests.{not-true, not-false, eq-eqb, ne-eqb}
+use borrow.Author.Tests.{eq-eqb, ne-eqb}
 use Rattle.chars.specs.Bytes.{dot, slash}
 use Rattle.chars.specs.Lists.{afterLast}
 use Rattle.base.proofs.Lists.{take-rest}
 use Rattle.chars.proofs.Searches.{last-le}
-use Rattle.output.specs.Answers.{Answer, answer, written, Text}
-use Rattle.names.specs.Names.{partName, lastSegment, extensionAt}
+use Rattle.output.specs.Answers.{Answer, answer, ofWritten, written, Text, Refused}
+use Rattle.output.specs.declared.writing.Written.the-variants as told
+use Rattle.output.proofs.Answering.{refusing-is}
+use Rattle.names.specs.Names.{lastSegment, extensionAt}
 use Rattle.model.specs.Sets.{Bytes, lookup}
-use Rattle.model.specs.Fields.{first}
-use Rattle.model.specs.Package.{State, Default, Override, nameKey, keyOfDefault, keyOfOverride, typeOf, typeOfDefault, defaultFor, mediaTypeOf}
-use Rattle.model.specs.Calls.{Prints, MediaType, printed}
+use Rattle.model.specs.Package.{State, Default, Override, nameKey, keyOfDefault, keyOfOverride, defaultFor, mediaTypeOf}
+use Rattle.model.specs.TypeOrigin.{Origin, ByOverride, ByDefault, Neither, originIn, originOf}
+use Rattle.model.specs.Calls.{Prints, MediaType}
 use Rattle.model.proofs.Numbers.{numbered}
+use Rattle.model.proofs.Origins.{given, origin-type, type-printed, type-refused}
 use Rattle.store.specs.Layout.{countOf}
 use Rattle.store.specs.Rows.{Row, rowAt, rowsOf, fieldOf}
 use Rattle.store.specs.Packages.{Sound}
@@ -33,28 +36,42 @@ use Rattle.contract.proofs.RowEntries.{row-here, row-none}
 use Rattle.contract.proofs.SetRows.{rowFor}
 use Rattle.contract.proofs.RowKinds.{override-rows, default-rows}
 use Rattle.contract.proofs.SetStates.{found-row}
-use Rattle.parts.specs.Runs.{PartOf}
+use Rattle.parts.specs.Runs.{PartRefused}
 use Rattle.parts.proofs.TextAnswers.{text-refused, text-answered}
-use Rattle.types.specs.TypeRows.{Typed}
+use Rattle.types.specs.TypeRows.{originRow, Typed}
 
--- a type stands in the second field of its entry's row
-override-type : (o : Option Override) (d : Option Default) (y : Row) → rowFor overrideRow o ≡ some y → typeOf o d ≡ some (fieldOf y 1)
-unfolding overrideRow fieldOf
-override-type none d y e = absurd (Option·none-ne-some y e)
-override-type (some x) d y e = ap (λ (w : Row). some (fieldOf w 1)) (Option·some-injective (overrideRow x) y e)
+-- THE ROW of the entry that gives the type
+override-origin : (o : Option Override) (d : Option Default) (y : Row) → rowFor overrideRow o ≡ some y → originRow (originIn o d) ≡ some y
+override-origin none d y e = absurd (Option·none-ne-some y e)
+override-origin (some o) d y e = e
 
-override-none : (o : Option Override) → rowFor overrideRow o ≡ none → o ≡ none
-override-none none e = refl
-override-none (some x) e = absurd (Option·none-ne-some (overrideRow x) (sym e))
+default-origin : (d : Option Default) → originRow (originIn none d) ≡ rowFor defaultRow d
+default-origin none = refl
+default-origin (some d) = refl
 
-default-type : (o : Option Default) (y : Row) → rowFor defaultRow o ≡ some y → typeOfDefault o ≡ some (fieldOf y 1)
-unfolding defaultRow fieldOf
-default-type none y e = absurd (Option·none-ne-some y e)
-default-type (some x) y e = ap (λ (w : Row). some (fieldOf w 1)) (Option·some-injective (defaultRow x) y e)
+no-override : (o : Option Override) → rowFor overrideRow o ≡ none → o ≡ none
+no-override none e = refl
+no-override (some o) e = absurd (Option·none-ne-some (overrideRow o) (sym e))
 
-default-none : (o : Option Default) → rowFor defaultRow o ≡ none → typeOfDefault o ≡ none
-default-none none e = refl
-default-none (some x) e = absurd (Option·none-ne-some (defaultRow x) (sym e))
+-- it tells the type, in its second field
+row-type : (x : Origin) (y : Row) → originRow x ≡ some y → given x ≡ some (fieldOf y 1)
+unfolding overrideRow defaultRow fieldOf
+row-type (ByOverride o) y e = ap (λ (w : Row). some (fieldOf w 1)) (Option·some-injective (overrideRow o) y e)
+row-type (ByDefault d) y e = ap (λ (w : Row). some (fieldOf w 1)) (Option·some-injective (defaultRow d) y e)
+row-type Neither y e = absurd (Option·none-ne-some y e)
+
+pub row-neither : (x : Origin) → originRow x ≡ none → x ≡ Neither
+row-neither (ByOverride o) e = absurd (Option·none-ne-some (overrideRow o) (sym e))
+row-neither (ByDefault d) e = absurd (Option·none-ne-some (defaultRow d) (sym e))
+row-neither Neither e = refl
+
+-- so the row that is found has the media type of the name
+module _ (b : List ℕ) (name : Bytes) (r : ℕ) (t : Typed b name r) (S : State) (h : Holds b S) where
+  pub typed-found : r < countOf b → mediaTypeOf name S ≡ some (fieldOf (rowAt b r) 1)
+  typed-found l = origin-type S name ∙ row-type (originOf name S) (rowAt b r) (t .found S h l)
+
+  pub typed-missing : countOf b ≤ r → mediaTypeOf name S ≡ none
+  typed-missing l = origin-type S name ∙ ap given (row-neither (originOf name S) (t .missing S h l))
 
 module _ (b : List ℕ) (S : State) (h : Holds b S) (s : Bytes) where
   override-row : lookup rowKey (keyIn 2 s 0 []) (rowsOf b) ≡ rowFor overrideRow (lookup keyOfOverride (nameKey s) (S .overrides))
@@ -77,55 +94,52 @@ extension-le s = go (eqb (afterLast dot (lastSegment s)) 0)
 module _ (b : List ℕ) (s : Bytes) (r m : ℕ) (er : Sought b (keyIn 2 s 0 []) r) (em : m ≡ countOf b) where
   -- "its Override"
   pub typed-override : r < m → Typed b s r
-  unfolding mediaTypeOf
+  unfolding originOf
   typed-override l = record {
-    found = λ S h k. override-type (lookup keyOfOverride (nameKey s) (S .overrides)) (defaultFor s (S .defaults)) (rowAt b r) (sym (override-row b S h s) ∙ row-here b (holds-ordered b S h) (keyIn 2 s 0 []) r er k);
+    found = λ S h k. override-origin (lookup keyOfOverride (nameKey s) (S .overrides)) (defaultFor s (S .defaults)) (rowAt b r) (sym (override-row b S h s) ∙ row-here b (holds-ordered b S h) (keyIn 2 s 0 []) r er k);
     missing = λ S h k. absurd (omega arith);
   }
 
   module _ (l : m ≤ r) (i : ℕ) (ei : i ≡ extensionAt s) where
     -- "else the Default of its extension"
-    type-is : (S : State) → Holds b S → mediaTypeOf s S ≡ typeOfDefault (cond (eqb i 0) none (lookup keyOfDefault (nameKey (drop i s)) (S .defaults)))
-    unfolding mediaTypeOf
-    type-is S h =
-        ap (λ (o : Option Override). typeOf o (defaultFor s (S .defaults)))
-        (override-none (lookup keyOfOverride (nameKey s) (S .overrides)) (sym (override-row b S h s) ∙ row-none b (holds-ordered b S h) (keyIn 2 s 0 []) r er (omega arith)))
-        ∙ ap (λ (j : ℕ). typeOfDefault (cond (eqb j 0) none (lookup keyOfDefault (nameKey (drop j s)) (S .defaults)))) (sym ei)
+    origin-is : (S : State) → Holds b S → originRow (originOf s S) ≡ rowFor defaultRow (cond (eqb i 0) none (lookup keyOfDefault (nameKey (drop i s)) (S .defaults)))
+    unfolding originOf
+    origin-is S h =
+        ap (λ (o : Option Override). originRow (originIn o (defaultFor s (S .defaults))))
+        (no-override (lookup keyOfOverride (nameKey s) (S .overrides)) (sym (override-row b S h s) ∙ row-none b (holds-ordered b S h) (keyIn 2 s 0 []) r er (omega arith)))
+        ∙ default-origin (defaultFor s (S .defaults))
+        ∙ ap (λ (j : ℕ). rowFor defaultRow (cond (eqb j 0) none (lookup keyOfDefault (nameKey (drop j s)) (S .defaults)))) (sym ei)
 
     pub typed-bare : i ≡ 0 → Typed b s m
-    typed-bare z = record { found = λ S h k. absurd (omega arith); missing = λ S h k. type-is S h ∙ rw (eq-eqb i 0 z) }
+    typed-bare z = record { found = λ S h k. absurd (omega arith); missing = λ S h k. origin-is S h ∙ rw (eq-eqb i 0 z) }
 
     pub typed-default : (i ≡ 0 → ⊥) → (j : ℕ) → Sought b (keyIn 1 (take (length s - i) (drop i s)) 0 []) j → Typed b s j
     typed-default z j ej =
         let w : Sought b (keyIn 1 (drop i s) 0 []) j = subst (λ (e : Bytes). Sought b (keyIn 1 e 0 []) j) (take-rest s i) ej in
         record {
-          found = λ S h k. type-is S h ∙ rw (ne-eqb i 0 z) (default-type (lookup keyOfDefault (nameKey (drop i s)) (S .defaults)) (rowAt b j) (sym (default-row b S h (drop i s)) ∙ row-here b (holds-ordered b S h) (keyIn 1 (drop i s) 0 []) j w k));
-          missing = λ S h k. type-is S h ∙ rw (ne-eqb i 0 z) (default-none (lookup keyOfDefault (nameKey (drop i s)) (S .defaults)) (sym (default-row b S h (drop i s)) ∙ row-none b (holds-ordered b S h) (keyIn 1 (drop i s) 0 []) j w k));
+          found = λ S h k. origin-is S h ∙ rw (ne-eqb i 0 z) (sym (default-row b S h (drop i s)) ∙ row-here b (holds-ordered b S h) (keyIn 1 (drop i s) 0 []) j w k);
+          missing = λ S h k. origin-is S h ∙ rw (ne-eqb i 0 z) (sym (default-row b S h (drop i s)) ∙ row-none b (holds-ordered b S h) (keyIn 1 (drop i s) 0 []) j w k);
         }
 
--- EACH WAY OUT OF THE CALL; q is the test of the name, y whether it is a part
-module _ (b : List ℕ) (o : Open b) (name out : Bytes) (q : Bool) (eq : q ≡ partName name) where
-  -- "4 not a part name"
-  pub type-misnamed : not q ≡ true → Ran (Prints (MediaType name) out) b (answer 4 (0 ∷ []) out) b
-  unfolding printed first
-  type-misnamed hq = text-refused b o (MediaType name) refl out 4 (numbered 4 (omega arith) (omega arith)) (λ S h. rw (← eq, not-true q hq))
+-- EACH WAY OUT OF THE CALL; k is the refusal of the part
+module _ (b : List ℕ) (o : Open b) (name out : Bytes) (k : ℕ) (ek : PartRefused b name k) where
+  -- "4 not a part name", "13 not held, no part yet"
+  pub type-stopped : (k ≡ 0 → ⊥) → Ran (Prints (MediaType name) out) b (ofWritten (told.Refused k) out) b
+  type-stopped z =
+      rw (refusing-is k z (answer k (0 ∷ []) out))
+      (text-refused b o (MediaType name) refl out k (ek .numbered)
+      (λ S h. type-refused S name (length out) (λ y. z (ek .is S h ∙ y)) ∙ ap Refused (sym (ek .is S h))))
 
-  module _ (hq : not q ≡ false) (y : Bool) (ey : PartOf b name y) where
-    -- "13 not held, no part yet"
-    pub type-missing : not y ≡ true → Ran (Prints (MediaType name) out) b (answer 13 (0 ∷ []) out) b
-    unfolding printed first
-    type-missing hy = text-refused b o (MediaType name) refl out 13 (numbered 13 (omega arith) (omega arith)) (λ S h. rw (← eq, not-false q hq, ← ey .is S h, not-true y hy))
+  module _ (z : k ≡ 0) (r m : ℕ) (t : Typed b name r) (em : m ≡ countOf b) where
+    -- "14 no media type"
+    pub type-none : m ≤ r → Ran (Prints (MediaType name) out) b (answer 14 (0 ∷ []) out) b
+    type-none l =
+        text-refused b o (MediaType name) refl out 14 (numbered 14 (omega arith) (omega arith))
+        (λ S h. type-printed S name (length out) (sym (ek .is S h) ∙ z) ∙ rw (typed-missing b name r t S h (omega arith)))
 
-    module _ (hy : not y ≡ false) (r m : ℕ) (t : Typed b name r) (em : m ≡ countOf b) where
-      -- "14 no media type"
-      pub type-none : m ≤ r → Ran (Prints (MediaType name) out) b (answer 14 (0 ∷ []) out) b
-      unfolding printed first
-      type-none l = text-refused b o (MediaType name) refl out 14 (numbered 14 (omega arith) (omega arith)) (λ S h. rw (← eq, not-false q hq, ← ey .is S h, not-false y hy, t .missing S h (omega arith)))
-
-      pub type-written : r < m → (s : Bytes) → (Sound b → r < countOf b → s ≡ fieldOf (rowAt b r) 1) → (a : Answer) → a ≡ written (Text s []) out → Ran (Prints (MediaType name) out) b a b
-      unfolding printed first
-      type-written l s es a ea =
-          text-answered b o (MediaType name) refl out s a ea
-          (λ S h.
-          let x : s ≡ fieldOf (rowAt b r) 1 = es (h .lies .sound) (omega arith) in
-          rw (← eq, not-false q hq, ← ey .is S h, not-false y hy, t .found S h (omega arith), ← x))
+    pub type-written : r < m → (s : Bytes) → (Sound b → r < countOf b → s ≡ fieldOf (rowAt b r) 1) → (a : Answer) → a ≡ written (Text s []) out → Ran (Prints (MediaType name) out) b a b
+    type-written l s es a ea =
+        text-answered b o (MediaType name) refl out s a ea
+        (λ S h.
+        let x : s ≡ fieldOf (rowAt b r) 1 = es (h .lies .sound) (omega arith) in
+        type-printed S name (length out) (sym (ek .is S h) ∙ z) ∙ rw (typed-found b name r t S h (omega arith), ← x))

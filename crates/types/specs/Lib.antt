@@ -1,1 +1,2 @@
 pub mod TypeRows
+pub mod TypeOrigins

@@ -1,3 +1,4 @@
-// Media types: Defaults, Overrides, and the type of a part.
+// Media types: Defaults, Overrides, the type of a part, and the entry that gives it.
 pub mod calls;
 pub mod media;
+pub mod origin;

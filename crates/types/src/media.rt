@@ -4,10 +4,9 @@ use contract::OVERRIDES;
 use contract::entries::locate;
 use contract::gate::opened;
 use names::parts::extension_at;
-use names::parts::is_part_name;
 use output::writing::Written;
 use output::writing::put_text;
-use parts::runs::is_part;
+use parts::runs::part_refusal;
 use store::header::count;
 use store::rows::field;
 ghost use Rattle.output.specs.Answers.{ofWritten};
@@ -41,11 +40,9 @@ pub fn media_type(pkg: &[u8], name: &[u8], out: &mut [u8]) -> Written
     if k != 0 {
         return Written::Refused(k);
     }
-    if !is_part_name(name) {
-        return Written::Refused(4);
-    }
-    if !is_part(pkg, name) {
-        return Written::Refused(13);
+    let k = part_refusal(pkg, name);
+    if k != 0 {
+        return Written::Refused(k);
     }
     let r = type_row(pkg, name);
     if r < count(pkg) {
