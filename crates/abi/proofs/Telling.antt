@@ -1,13 +1,13 @@
 -- A call of a script, made through its exported function: what the export promises is what the script is told.
 -- Assumes nothing.
 use Prim.Native.Nat.{ℕ, _+_, _-_}
-use mathlib.Core.Path.{_≡_, ap, sym, _∙_, subst}
+use mathlib.Core.Path.{_≡_, refl, ap, sym, _∙_, subst}
 use mathlib.Core.List.{[], _∷_, _++_}
 use native.Mathlib.Omega.{arith}
 use lib.ListN.{length, take, drop, getD}
 use Rattle.output.specs.Answers.{Answer, answer}
 use Rattle.model.specs.Sets.{Bytes}
-use Rattle.model.specs.Calls.{Print, View, Totals, Call, Looks, Prints}
+use Rattle.model.specs.Calls.{Print, View, Totals, Call, Looks, TypeOrigin, Prints}
 use Rattle.base.specs.Buffer.{part}
 use Rattle.base.proofs.Parts.{length-part}
 use Rattle.contract.specs.Answers.{ofView}
@@ -30,8 +30,20 @@ pub told-plain : {call : Call} {p : Bytes} {r : Reply} {q : Bytes} → ((a : Ans
 told-plain et el x lent = record { answered = x .answered; ran = x .ran; reply = x .handed .reply ∙ ap replyOf (sym (et (x .answered))); is = sym (el lent (x .answered)) }
 
 -- a call that writes into what it is lent
+told-lent : {call : Call} {p : Bytes} {r : Reply} {lent lent′ q : Bytes} → ((a : Answer) → told call a ≡ a) → ((a : Answer) → left call lent a ≡ a .output)
+    → Replied call p r lent′ q → Told call p lent r lent′ q
+told-lent et el x = record {
+  answered = x .answered;
+  ran = x .ran;
+  reply = x .handed .reply ∙ ap replyOf (sym (et (x .answered)));
+  is = sym (el (x .answered) ∙ x .handed .output);
+}
+
 pub told-print : {w : Print} {p : Bytes} {r : Reply} {lent lent′ q : Bytes} → Replied (Prints w lent) p r lent′ q → Told (Prints w lent) p lent r lent′ q
-told-print x = record { answered = x .answered; ran = x .ran; reply = x .handed .reply; is = sym (x .handed .output) }
+told-print x = told-lent (λ a. refl) (λ a. refl) x
+
+pub told-origin : {name p : Bytes} {r : Reply} {lent lent′ q : Bytes} → Replied (TypeOrigin name lent) p r lent′ q → Told (TypeOrigin name lent) p lent r lent′ q
+told-origin x = told-lent (λ a. refl) (λ a. refl) x
 
 -- a view: its part, from a on, n bytes
 pub told-view : (name p out out′ : Bytes) (a n : ℕ) (r : Reply) → Viewed name p a n → r ≡ replyOf (answer 0 (n ∷ []) [])

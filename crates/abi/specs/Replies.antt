@@ -6,7 +6,7 @@ use mathlib.Core.Bool.{Bool, true, false}
 use mathlib.Core.List.{List, [], _∷_}
 use lib.ListN.{length, getD}
 use Rattle.output.specs.Answers.{Answer, answer}
-use Rattle.model.specs.Calls.{Find, View, Totals, Call, Start, Looks, Changes, CutPart, Prints, valueCount}
+use Rattle.model.specs.Calls.{Find, View, Totals, Call, Start, Looks, Changes, CutPart, TypeOrigin, Prints, valueCount}
 use Rattle.contract.specs.Ran.{Ran}
 use Rattle.items.specs.Spans.{Viewed}
 use Rattle.chars.specs.declared.folding.Order.{Order}
@@ -35,6 +35,7 @@ valuesOf (Looks (View name)) = 0
 valuesOf (Looks Totals) = 3
 valuesOf (Changes c) = 1
 valuesOf (CutPart name n) = 2
+valuesOf (TypeOrigin name output) = 2
 valuesOf (Prints w output) = valueCount w
 
 -- THE PROMISE of an exported call on a package. It ran on the bytes p and left the bytes q; its reply r and its output, which then holds the

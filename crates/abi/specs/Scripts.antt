@@ -11,7 +11,7 @@ use lib.ListN.{length, take, drop}
 use Rattle.output.specs.Answers.{Answer, answer}
 use Rattle.model.specs.Sets.{Bytes}
 use Rattle.model.specs.Package.{State, empty}
-use Rattle.model.specs.Calls.{Find, View, Totals, Call, Start, Looks, Changes, CutPart, Prints, refused, startRefusal, answers, after}
+use Rattle.model.specs.Calls.{Find, View, Totals, Call, Start, Looks, Changes, CutPart, TypeOrigin, Prints, refused, startRefusal, answers, after}
 use Rattle.contract.specs.Holds.{Holds}
 use Rattle.contract.specs.Ran.{Ran}
 use Rattle.script.specs.Numbers.{le8}
@@ -34,6 +34,7 @@ told (Looks (View name)) a = answer 0 (length (a .output) ∷ []) []
 told (Looks Totals) a = a
 told (Changes c) a = a
 told (CutPart name n) a = a
+told (TypeOrigin name output) a = a
 told (Prints w output) a = a
 
 -- what the call then leaves in the bytes that it is lent: its output; of a viewed part as many bytes as it takes
@@ -44,6 +45,7 @@ left (Looks (View name)) lent a = take (length lent) (a .output) ++ drop (length
 left (Looks Totals) lent a = lent
 left (Changes c) lent a = lent
 left (CutPart name n) lent a = lent
+left (TypeOrigin name output) lent a = a .output
 left (Prints w output) lent a = a .output
 
 unfoldable pub recorded : Call → Bytes → Answer → Bytes

@@ -2,6 +2,7 @@
 use crate::replies::Reply;
 use crate::replies::of_did;
 use crate::replies::of_resolution;
+use crate::replies::of_type_origin;
 use crate::replies::of_written;
 use relationships::calls::drop_relationship;
 use relationships::calls::put_relationship;
@@ -11,6 +12,7 @@ use types::calls::drop_override;
 use types::calls::put_default;
 use types::calls::put_override;
 use types::media::media_type;
+use types::origin::type_origin;
 ghost use mathlib.Core.List.{[]};
 ghost use Rattle.model.specs.Calls.{Call, Change, Print};
 ghost use Rattle.abi.specs.Replies.{Replied};
@@ -49,6 +51,14 @@ pub extern "C" fn opc_media_type(pkg: &[u8], name: &[u8], out: &mut [u8]) -> Rep
     ensures { λ r. ⌜ Replied (Call.Prints (Print.MediaType (now (name .entry))) (now (out .entry))) (now (pkg .entry)) r (now (out .exit)) (now (pkg .entry)) ⌝ }
 {
     of_written(media_type(pkg, name, out))
+}
+
+// How the media type was arrived at: 2 by an Override, 1 by a Default, 0 by neither, and the length of its key.
+#[no_mangle]
+pub extern "C" fn opc_type_origin(pkg: &[u8], name: &[u8], out: &mut [u8]) -> Reply
+    ensures { λ r. ⌜ Replied (Call.TypeOrigin (now (name .entry)) (now (out .entry))) (now (pkg .entry)) r (now (out .exit)) (now (pkg .entry)) ⌝ }
+{
+    of_type_origin(type_origin(pkg, name, out))
 }
 
 // Any number may be given as the mode: 0 is internal, 1 external, others are refused.

@@ -17,6 +17,7 @@ use crate::fields::opc_put_default;
 use crate::fields::opc_put_override;
 use crate::fields::opc_put_relationship;
 use crate::fields::opc_resolve_relationship;
+use crate::fields::opc_type_origin;
 use crate::replies::Reply;
 use crate::replies::one;
 use crate::xml::opc_write_relationships;
@@ -169,7 +170,7 @@ fn make_part_change(
     c: &[u8],
     d: &[u8],
 ) -> Reply
-    requires { ⌜ (19 ≤ code) × (code ≤ lastCode) ⌝ }
+    requires { ⌜ (19 ≤ code) × (code ≤ 20) ⌝ }
     ensures { λ r. ⌜ Unlent (coded code n (now (a .entry)) (now (b .entry)) (now (c .entry)) (now (d .entry))) (now (pkg .entry)) r (now (pkg .exit)) ⌝ }
 {
     if code == 19 {
@@ -204,5 +205,8 @@ pub(crate) fn make(
     if code <= 18 {
         return make_print(pkg, code, n, a, b, c, d, out);
     }
-    make_part_change(pkg, code, n, a, b, c, d)
+    if code <= 20 {
+        return make_part_change(pkg, code, n, a, b, c, d);
+    }
+    opc_type_origin(pkg, a, out)
 }

@@ -7,6 +7,7 @@ use output::writing::Written;
 use pack::pack::Resolved;
 use relationships::resolving::Resolution;
 use store::rows::Span;
+use types::origin::TypeOrigin;
 ghost use mathlib.Core.Path.{_≡_};
 ghost use mathlib.Core.List.{List, [], _∷_};
 ghost use Prim.Native.Nat.{ℕ};
@@ -15,6 +16,7 @@ ghost use Rattle.pack.specs.Pack.{ofResolved};
 ghost use Rattle.model.specs.Calls.{flag as flagOf};
 ghost use Rattle.contract.specs.Answers.{ofDid, ofCut, ofFound, ofTotalled};
 ghost use Rattle.relationships.specs.Resolutions.{ofResolution};
+ghost use Rattle.types.specs.TypeOrigins.{ofTypeOrigin};
 ghost use Rattle.abi.specs.Replies.{replyOf, HandsOver};
 
 // A call's number (0: accepted), how many values it answers, and the values; the others are 0.
@@ -74,6 +76,18 @@ pub(crate) fn of_resolved(w: Resolved) -> Reply
         Resolved::Found(a, b) => two(0, a, b),
         Resolved::Short(n) => two(3, n, 0),
         Resolved::Refused(k) => two(k, 0, 0),
+    }
+}
+
+pub(crate) fn of_type_origin(w: TypeOrigin) -> Reply
+    ensures { λ r. ⌜ ((out : List ℕ) → (ofTypeOrigin w out ≡ unanswered → ⊥) → HandsOver (ofTypeOrigin w out) 2 r out) ⌝ }
+{
+    match w {
+        TypeOrigin::Override(n) => two(0, 2, n),
+        TypeOrigin::Default(n) => two(0, 1, n),
+        TypeOrigin::Neither => two(0, 0, 0),
+        TypeOrigin::Short(n) => two(3, n, 0),
+        TypeOrigin::Refused(k) => two(k, 0, 0),
     }
 }
 
