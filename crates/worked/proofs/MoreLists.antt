@@ -13,14 +13,19 @@ use Rattle.output.specs.declared.writing.Written.the-variants as written
 use Rattle.output.proofs.Answering.{filled-fits}
 use Rattle.model.specs.Sets.{Bytes}
 use Rattle.model.specs.Package.{empty}
-use Rattle.model.specs.Calls.{Call, Looks, Changes, CutPart, Prints, Find, View, Totals, PutItem, DropItem, PutDefault, DropDefault, PutOverride}
+use Rattle.model.specs.Calls.{Call, Looks, Changes, CutPart, TypeOrigin, Prints, Find, View, Totals, PutItem, DropItem, PutDefault, DropDefault, PutOverride}
 use Rattle.model.specs.Calls.{DropOverride, PutRelationship, DropRelationship, JoinPart, PartAt, ReadPart, MediaType, WriteRelationships, printed}
 use Rattle.model.specs.Calls.{done, answers, after}
+use Rattle.model.specs.TypeOrigin.{keyed, typeOrigin}
+use Rattle.model.proofs.Origins.{keyed-fits}
 use Rattle.model.specs.Opened.{everything}
 use Rattle.contract.specs.Answers.{ofTotalled}
 use Rattle.contract.specs.declared.answers.Totalled.{Totalled}
 use Rattle.contract.specs.declared.answers.Totalled.the-variants as totalled
-use Rattle.worked.specs.Last.{wrote, tiffType, joinedFrom, linkedText}
+use Rattle.types.specs.TypeOrigins.{ofTypeOrigin}
+use Rattle.types.specs.declared.origin.TypeOrigin.the-variants as origin
+use Rattle.types.specs.declared.origin.TypeOrigin as origins
+use Rattle.worked.specs.Last.{wrote, byDefault, tiffType, joinedFrom, linkedText}
 
 -- an output that suffices takes the text
 wrote-fits : (t out : Bytes) → length t ≤ length out → filled 1 out (Text t []) ≡ wrote t out
@@ -32,6 +37,15 @@ wrote-output (written.Bytes n) t o out h e = ap (λ (a : Answer). a .output) e
 wrote-output (written.Short n) t o out h e = absurd (omega (arith, ap (λ (a : Answer). a .number) e))
 wrote-output (written.Refused zero) t o out h e = absurd (omega (arith, ap (λ (a : Answer). getD (a .values) 0 0) e))
 wrote-output (written.Refused (suc k)) t o out h e = absurd (omega (arith, ap (λ (a : Answer). a .number) e))
+
+-- and where the entry was named
+pub named-output : (r : origins.TypeOrigin) (t o out : Bytes) → ofTypeOrigin r o ≡ byDefault t out → o ≡ t ++ drop (length t) out
+named-output (origin.Override n) t o out e = ap (λ (a : Answer). a .output) e
+named-output (origin.Default n) t o out e = ap (λ (a : Answer). a .output) e
+named-output origin.Neither t o out e = ap (λ (a : Answer). a .output) e
+named-output (origin.Short n) t o out e = ap (λ (a : Answer). a .output) e
+named-output (origin.Refused zero) t o out e = absurd (omega (arith, ap (λ (a : Answer). a .number) e))
+named-output (origin.Refused (suc k)) t o out e = ap (λ (a : Answer). a .output) e
 
 -- totals of some items are no refusal
 pub totals-of : (r : Totalled) (i n c : ℕ) → 0 < i → ofTotalled r ≡ answer 0 (i ∷ n ∷ c ∷ []) [] → r ≡ totalled.Of i n c
@@ -84,6 +98,25 @@ typed-printed room size = refl
 pub typed-last : (room : ℕ) (out : Bytes) → 10 ≤ length out → getD (answers room (empty 100) (typing ++ Prints (MediaType (ascii "/A.tif")) out ∷ [])) 4 done ≡ wrote tiffType out
 unfolding answers after
 typed-last room out h = ap (filled 1 out) (typed-printed room (length out)) ∙ wrote-fits tiffType out h
+
+-- HOW IT WAS ARRIVED AT
+abbrev pub arguing : Bytes → List Call
+arguing earlier =
+    Changes (PutItem (ascii "/a.tif") (ascii "tile"))
+    ∷ Changes (PutDefault (ascii "Tif") (ascii "image/tiff"))
+    ∷ Changes (PutOverride (ascii "/A.TIF") (ascii "image/png"))
+    ∷ TypeOrigin (ascii "/a.tif") earlier
+    ∷ Changes (DropOverride (ascii "/a.tif"))
+    ∷ []
+
+argued-key : (room : ℕ) (earlier out : Bytes) → typeOrigin (after room (empty 100) (arguing earlier)) (ascii "/A.tif") out ≡ keyed 1 (ascii "Tif") out
+unfolding everything
+argued-key room earlier out = refl
+
+pub argued-last : (room : ℕ) (earlier out : Bytes) → 3 ≤ length out →
+    getD (answers room (empty 100) (arguing earlier ++ TypeOrigin (ascii "/A.tif") out ∷ [])) 5 done ≡ byDefault (ascii "Tif") out
+unfolding answers after
+argued-last room earlier out h = argued-key room earlier out ∙ keyed-fits 1 (ascii "Tif") out h
 
 -- A PART IN PIECES
 abbrev pub joining : Bytes → List Call

@@ -19,6 +19,10 @@ ledTo out = answer 0 (48 ∷ 0 ∷ 1 ∷ []) (ledText ++ drop 48 out)
 abbrev pub wrote : List ℕ → List ℕ → Answer
 wrote text out = answer 0 (length text ∷ []) (text ++ drop (length text) out)
 
+-- the same of a Default's extension, where it is why a part has its type: 1 and the length
+abbrev pub byDefault : List ℕ → List ℕ → Answer
+byDefault extension out = answer 0 (1 ∷ length extension ∷ []) (extension ++ drop (length extension) out)
+
 abbrev pub tiffType : List ℕ
 tiffType = ascii "image/tiff"
 

@@ -26,6 +26,8 @@ use types::calls::drop_override;
 use types::calls::put_default;
 use types::calls::put_override;
 use types::media::media_type;
+use types::origin::TypeOrigin;
+use types::origin::type_origin;
 ghost use mathlib.Core.Path.{_≡_};
 ghost use mathlib.Core.Bool.{true};
 ghost use Prim.Native.Nat.{_≤_};
@@ -35,7 +37,8 @@ ghost use Rattle.names.specs.Iris.{packageIri};
 ghost use Rattle.output.specs.Answers.{ofWritten};
 ghost use Rattle.pack.specs.Pack.{unfragmented, packIri, partOrRoot, partOf, Found as FoundAt, ofResolved, located};
 ghost use Rattle.relationships.specs.Resolutions.{ofResolution};
-ghost use Rattle.worked.specs.Last.{ledTo, wrote, tiffType, joinedFrom, linkedText};
+ghost use Rattle.types.specs.TypeOrigins.{ofTypeOrigin};
+ghost use Rattle.worked.specs.Last.{ledTo, wrote, byDefault, tiffType, joinedFrom, linkedText};
 
 // A tile is put, the same name in capitals is refused, pieces of another tile follow: the first tile is found, five bytes long.
 fn worked(p: &mut [u8]) -> Found
@@ -93,6 +96,20 @@ fn typed(p: &mut [u8], out: &mut [u8]) -> Written
     put_override(p, b"/A.TIF", b"image/png");
     drop_override(p, b"/a.TIF");
     media_type(p, b"/A.tif", out)
+}
+
+// How the type was arrived at is asked while the Override is held, and when it is dropped: then the Default is named, as it was put.
+fn argued(p: &mut [u8], earlier: &mut [u8], out: &mut [u8]) -> TypeOrigin
+    requires { ⌜ (33000 ≤ length (now p)) × (3 ≤ length (now out)) ⌝ }
+    ensures { λ r. ⌜ ofTypeOrigin r (now (out .exit)) ≡ byDefault (ascii "Tif") (now (out .entry)) ⌝ }
+{
+    start(p, 100);
+    put_item(p, b"/a.tif", b"tile");
+    put_default(p, b"Tif", b"image/tiff");
+    put_override(p, b"/A.TIF", b"image/png");
+    type_origin(p, b"/a.tif", earlier);
+    drop_override(p, b"/a.tif");
+    type_origin(p, b"/A.tif", out)
 }
 
 // The last piece comes first, and in capitals: from offset 1 on the part is read over both.
@@ -168,6 +185,10 @@ fn run_writers(p: &mut [u8])
     let mut media = [0u8; 10];
     typed(p, &mut media);
     check::expect(media[9] == b'f');
+    let mut earlier = [0u8; 6];
+    let mut key = [0u8; 3];
+    argued(p, &mut earlier, &mut key);
+    check::expect(key[2] == b'f');
     let mut name = [0u8; 2];
     let mut content = [0u8; 3];
     joined(p, &mut name, &mut content);
