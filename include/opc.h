@@ -83,6 +83,11 @@ typedef struct opc_reply {
 #define OPC_INTERNAL 0
 #define OPC_EXTERNAL 1
 
+/* What a part's media type comes from. */
+#define OPC_NEITHER 0
+#define OPC_DEFAULT 1
+#define OPC_OVERRIDE 2
+
 /* JUDGEMENTS on any bytes. None is refused. */
 bool opc_is_part_name(const uint8_t *name, size_t name_length);
 bool opc_is_reserved(const uint8_t *name, size_t name_length); /* of a part name */
@@ -201,6 +206,13 @@ opc_reply opc_drop_override(uint8_t *package, size_t package_length, const uint8
 opc_reply opc_media_type(const uint8_t *package, size_t package_length, const uint8_t *name, size_t name_length,
                          uint8_t *out, size_t out_length);
 
+/* Tells which entry a part's media type comes from, and copies its key as it was put: OPC_OVERRIDE and the length of the Override's name,
+   else OPC_DEFAULT and that of the Default's extension. Where opc_media_type is refused by 14, it answers OPC_NEITHER and 0 and writes
+   nothing, whatever the output's length. 255 bytes suffice.
+   Refusals: 4; 13 if no items make that part, or not yet; 3 by the key's length, which is the first value. */
+opc_reply opc_type_origin(const uint8_t *package, size_t package_length, const uint8_t *name, size_t name_length,
+                          uint8_t *out, size_t out_length);
+
 /* A relationship from a source, `/` or a part name; `kind` is its type. A mode other than OPC_INTERNAL and OPC_EXTERNAL is refused.
    Refusals: 4, 5 for the source; 8 for the id; to put 8 for the type or the mode, 9 for the target, 5 if it leads to a reserved name,
    10, 15; to drop 13. */
@@ -278,7 +290,8 @@ enum opc_code {
     OPC_CALL_WRITE_TYPES = 17,          /* writes */
     OPC_CALL_WRITE_RELATIONSHIPS = 18,  /* a source; writes */
     OPC_CALL_CUT_PART = 19,             /* a name, n how many pieces */
-    OPC_CALL_JOIN_PART = 20             /* a name */
+    OPC_CALL_JOIN_PART = 20,            /* a name */
+    OPC_CALL_TYPE_ORIGIN = 21           /* a name; writes */
 };
 
 /* Makes the calls of a script, each on the package as the one before left it: how many bytes of `out` were written, how many bytes of

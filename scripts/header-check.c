@@ -66,7 +66,7 @@ static opc_reply reply_at(const uint8_t *place)
 /* Scripts, on the package with the two pieces. */
 static int run_scripts(void)
 {
-    uint8_t out[400];
+    uint8_t out[500];
     size_t length = 0, first;
 
     CHECK(is(opc_run(package, sizeof package, script, 0, out, sizeof out), 0, 3, 0, 0, 0));
@@ -78,12 +78,15 @@ static int run_scripts(void)
     length = put_call(length, OPC_CALL_VIEW_ITEM, 3, "/t5", "", 0);
     length = put_call(length, OPC_CALL_CUT_PART, 0, "/t5", "", 3);
     length = put_call(length, OPC_CALL_JOIN_PART, 1, "/t5", "", 0);
+    length = put_call(length, OPC_CALL_PUT_OVERRIDE, 0, "/T5", "a/b", 0);
+    length = put_call(length, OPC_CALL_TYPE_ORIGIN, 5, "/t5", "", 0);
+    length = put_call(length, OPC_CALL_DROP_OVERRIDE, 0, "/t5", "", 0);
     length = put_call(length, OPC_CALL_DROP_ITEM, 0, "/t5", "", 0);
     length = put_call(length, OPC_CALL_TOTALS, 0, "", "", 0);
     CHECK(first == OPC_HEAD_SIZE + 7);
 
     memset(out, '.', sizeof out);
-    CHECK(is(opc_run(package, sizeof package, script, length, out, sizeof out), 0, 3, 334, length, 8));
+    CHECK(is(opc_run(package, sizeof package, script, length, out, sizeof out), 0, 3, 459, length, 11));
     CHECK(is(reply_at(out), 0, 1, 0, 0, 0));
     CHECK(is(reply_at(out + 40), OPC_TAKEN, 1, 0, 0, 0) && memcmp(out + 80, "..", 2) == 0);
     CHECK(is(reply_at(out + 82), 0, 1, 3, 0, 0) && memcmp(out + 122, "ile.....", 8) == 0);
@@ -91,13 +94,16 @@ static int run_scripts(void)
     CHECK(is(reply_at(out + 173), 0, 2, 1, 1, 0));
     CHECK(is(reply_at(out + 213), 0, 1, 0, 0, 0) && out[253] == '.');
     CHECK(is(reply_at(out + 254), 0, 1, 0, 0, 0));
-    CHECK(is(reply_at(out + 294), 0, 3, 2, 1, 50));
-    CHECK(out[334] == '.' && out[399] == '.');
+    CHECK(is(reply_at(out + 294), 0, 2, OPC_OVERRIDE, 3, 0) && memcmp(out + 334, "/T5..", 5) == 0);
+    CHECK(is(reply_at(out + 339), 0, 1, 0, 0, 0));
+    CHECK(is(reply_at(out + 379), 0, 1, 0, 0, 0));
+    CHECK(is(reply_at(out + 419), 0, 3, 2, 1, 50));
+    CHECK(out[459] == '.' && out[499] == '.');
 
     /* no room for the second answer; then what is no call in its place */
     CHECK(is(opc_run(package, sizeof package, script, length, out, 81), 0, 3, 40, first, 1));
     CHECK(is(opc_drop_item(package, sizeof package, TEXT("/t5")), 0, 1, 0, 0, 0));
-    put4(first, OPC_CALL_JOIN_PART + 1);
+    put4(first, OPC_CALL_TYPE_ORIGIN + 1);
     CHECK(is(opc_run(package, sizeof package, script, length, out, sizeof out), 0, 3, 80, first, 1));
     CHECK(is(reply_at(out + 40), OPC_UNREADABLE_LINE, 1, 0, 0, 0));
     return 0;
@@ -182,13 +188,24 @@ int main(void)
     CHECK(wrote(opc_read_part(package, sizeof package, TEXT("/t3.tif"), 0, out, sizeof out), out, "hello world"));
     CHECK(wrote(opc_part_at(package, sizeof package, 0, out, sizeof out), out, "/T3.tif"));
 
-    /* its media types */
+    /* its media types, and what they come from */
     CHECK(opc_media_type(package, sizeof package, TEXT("/t3.tif"), out, sizeof out).number == OPC_NO_MEDIA_TYPE);
+    CHECK(is(opc_type_origin(package, sizeof package, TEXT("/t3.tif"), out, 0), 0, 2, OPC_NEITHER, 0, 0));
+    CHECK(is(opc_type_origin(package, sizeof package, TEXT("/t4"), out, sizeof out), OPC_NOT_HELD, 2, 0, 0, 0));
+    CHECK(is(opc_type_origin(package, sizeof package, TEXT("t4"), out, sizeof out), OPC_NOT_A_PART_NAME, 2, 0, 0, 0));
     CHECK(is(opc_put_default(package, sizeof package, TEXT("TIF"), TEXT("image/tiff")), 0, 1, 0, 0, 0));
     CHECK(wrote(opc_media_type(package, sizeof package, TEXT("/t3.tif"), out, sizeof out), out, "image/tiff"));
+    memset(out, '.', sizeof out);
+    CHECK(is(opc_type_origin(package, sizeof package, TEXT("/t3.tif"), out, 2), OPC_OUTPUT_TOO_SHORT, 2, 3, 0, 0));
+    CHECK(out[0] == '.');
+    CHECK(is(opc_type_origin(package, sizeof package, TEXT("/t3.tif"), out, sizeof out), 0, 2, OPC_DEFAULT, 3, 0));
+    CHECK(memcmp(out, "TIF.", 4) == 0);
     CHECK(is(opc_put_override(package, sizeof package, TEXT("/T3.TIF"), TEXT("a/b;")), OPC_BAD_TYPE, 1, 0, 0, 0));
     CHECK(is(opc_put_override(package, sizeof package, TEXT("/T3.TIF"), TEXT("a/b;c=&")), 0, 1, 0, 0, 0));
     CHECK(wrote(opc_media_type(package, sizeof package, TEXT("/t3.tif"), out, sizeof out), out, "a/b;c=&"));
+    CHECK(is(opc_type_origin(package, sizeof package, TEXT("/t3.tif"), out, 6), OPC_OUTPUT_TOO_SHORT, 2, 7, 0, 0));
+    CHECK(is(opc_type_origin(package, sizeof package, TEXT("/t3.tif"), out, 7), 0, 2, OPC_OVERRIDE, 7, 0));
+    CHECK(memcmp(out, "/T3.TIF", 7) == 0);
     CHECK(wrote(opc_write_types(package, sizeof package, out, sizeof out), out,
                 "<?xml version=\"1.0\" encoding=\"UTF-8\"?>\n"
                 "<Types xmlns=\"http://schemas.openxmlformats.org/package/2006/content-types\">\n"

@@ -6,9 +6,14 @@ mod support;
 use support::package::{asked, buffer, changes, tile, Change, Pair, BATCH};
 use zombirels::package::Mode;
 
+/// What was asked for, and the seconds of the archive's type origin and of its
+/// media type call on the same names.
+type Beside = (&'static str, [f64; 2]);
+
 /// Types and relationships beside 200 tiles: 20 Defaults and 20 Overrides, 180
-/// relationships, and 40 more of each in turn.
-fn fields() {
+/// relationships, and 40 more of each in turn. Answers what is to be printed of
+/// type origins beside media types.
+fn fields() -> Vec<Beside> {
     let mut buffer = buffer();
     let mut pair = Pair::new(&mut buffer);
     for i in 0..200 {
@@ -75,33 +80,66 @@ fn fields() {
             Change::Drop => ledger.drop_relationship(source, id).expect("held"),
         },
     );
-    media_types(pair);
+    media_types(pair)
 }
 
-/// The types of 20 tiles by their Overrides, and of 140 by one Default.
-fn media_types(mut pair: Pair) {
+/// The types of 20 tiles by their Overrides, and of 140 by one Default; then
+/// what they come from, and what those of the 140 do without it.
+fn media_types(mut pair: Pair) -> Vec<Beside> {
     pair.put_default(b"tiff", b"image/tiff");
-    let Pair { package, ledger } = pair;
     let names: Vec<Vec<u8>> = (0..200).map(asked).collect();
+    let (by_override, by_default) = (&names[40..60], &names[60..]);
+    let Pair { package, ledger } = &pair;
     let (mut out, mut other) = ([0; 127], [0; 127]);
-    for (what, first, count) in [
-        ("media type by Override", 40, 20),
-        ("media type by Default", 60, 140),
+    for (what, names) in [
+        ("media type by Override", by_override),
+        ("media type by Default", by_default),
     ] {
         support::compare(
             what,
-            50_000 / count,
-            count,
-            |i| {
-                let name = &names[first + i];
-                package.media_type(name, &mut out).expect("a type")
-            },
-            |i| {
-                let name = &names[first + i];
-                ledger.media_type(name, &mut other).expect("a type")
-            },
+            50_000 / names.len(),
+            names.len(),
+            |i| package.media_type(&names[i], &mut out).expect("a type"),
+            |i| ledger.media_type(&names[i], &mut other).expect("a type"),
         );
         assert_eq!(out, other);
+    }
+    let mut rows = vec![
+        origins("type origin by Override", &pair, by_override),
+        origins("type origin by Default", &pair, by_default),
+    ];
+    pair.package.drop_default(b"tiff").expect("held");
+    pair.ledger.drop_default(b"tiff").expect("held");
+    rows.push(origins("type origin, neither", &pair, by_default));
+    rows
+}
+
+/// What the types of these parts come from.
+fn origins(what: &'static str, pair: &Pair, names: &[Vec<u8>]) -> Beside {
+    let Pair { package, ledger } = pair;
+    let (mut out, mut other) = ([0; 255], [0; 255]);
+    let (cases, passes) = (names.len(), 50_000 / names.len());
+    let mut origin = |i: usize| {
+        let origin = package.type_origin(&names[i], &mut out).expect("a part");
+        origin.number() as usize + origin.key().map_or(0, <[u8]>::len)
+    };
+    support::compare(what, passes, cases, &mut origin, |i| {
+        let origin = ledger.type_origin(&names[i], &mut other).expect("a part");
+        origin.kind as usize + origin.length
+    });
+    let mut bytes = [0; 127];
+    let mut media_type = |i: usize| package.media_type(&names[i], &mut bytes).unwrap_or(0);
+    let times = support::in_turn(passes, cases, [&mut origin, &mut media_type]);
+    assert_eq!(out, other);
+    (what, times)
+}
+
+fn print_beside(rows: Vec<Beside>) {
+    println!("the archive's type origin beside its own media type call");
+    let (empty, origin, media_type, ratio) = ("", "origin", "media type", "ratio");
+    println!("{empty:26} {origin:>10} {media_type:>10} {ratio:>8}");
+    for (what, [origin, media_type]) in rows {
+        support::print_line(what, origin, media_type);
     }
 }
 
@@ -207,7 +245,8 @@ fn streams() {
 
 fn main() {
     support::heading();
-    fields();
+    let origins = fields();
     resolves();
     streams();
+    print_beside(origins);
 }

@@ -9,7 +9,7 @@
 use std::error::Error;
 use std::path::Path;
 use std::{env, fs};
-use zombirels::package::{Mode, Package, PackageRef, Resolved, Totals, OVERHEAD};
+use zombirels::package::{Mode, Package, PackageRef, Resolved, Totals, TypeOrigin, OVERHEAD};
 use zombirels::Refusal;
 
 const CAPACITY: usize = 30_000;
@@ -96,7 +96,8 @@ fn load_links<'a>(slide: &mut Package, links: &'a [u8]) -> Vec<Link<'a>> {
     held
 }
 
-/// The parts in folded order, with their pieces, sizes and media types.
+/// The parts in folded order, with their pieces, sizes and media types, and
+/// what these come from.
 fn show_parts(slide: PackageRef) -> Result<(), Refusal> {
     let Totals {
         items,
@@ -152,13 +153,17 @@ fn begin(slide: PackageRef, part: &[u8]) -> Result<String, Refusal> {
     Ok(out[..length].escape_ascii().to_string())
 }
 
+/// The media type of a part, and the entry that it comes from.
 fn media_type(slide: PackageRef, part: &[u8]) -> Result<String, Refusal> {
+    let mut key = [0; 255];
+    let origin = match slide.type_origin(part, &mut key)? {
+        TypeOrigin::Override(name) => format!("Override {}", text(name)),
+        TypeOrigin::Default(extension) => format!("Default {}", text(extension)),
+        TypeOrigin::Neither => return Ok("no type".to_string()),
+    };
     let mut out = [0; 127];
-    match slide.media_type(part, &mut out) {
-        Ok(length) => Ok(text(&out[..length])),
-        Err(Refusal::NoMediaType) => Ok("no type".to_string()),
-        Err(refusal) => Err(refusal),
-    }
+    let length = slide.media_type(part, &mut out)?;
+    Ok(format!("{} by {origin}", text(&out[..length])))
 }
 
 /// Where each link leads, and whether the part is there.

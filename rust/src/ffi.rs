@@ -175,6 +175,14 @@ extern "C" {
         out: *mut u8,
         out_length: usize,
     ) -> Reply;
+    pub(crate) fn opc_type_origin(
+        package: *const u8,
+        package_length: usize,
+        name: *const u8,
+        name_length: usize,
+        out: *mut u8,
+        out_length: usize,
+    ) -> Reply;
     pub(crate) fn opc_put_relationship(
         package: *mut u8,
         package_length: usize,

@@ -10,8 +10,9 @@
 //!
 //! A part's media type is that of its *Override*, by name, else that of the
 //! *Default* of its extension. It may have parameters (`image/tiff;page=2`) and
-//! is kept as given. A *relationship* leads from a source, a part or the
-//! package itself (`/`), to a target.
+//! is kept as given. [`Package::type_origin`] tells which entry it comes from.
+//! A *relationship* leads from a source, a part or the package itself (`/`), to
+//! a target.
 //!
 //! The package lies in the caller's bytes and nowhere else: they may be
 //! stored, mapped or sent, and opened again with [`Package::open`], or with
@@ -35,12 +36,14 @@
 //! ```
 
 mod items;
+mod origin;
 mod package_ref;
 mod pieces;
 mod relationships;
 mod streams;
 mod types;
 
+pub use origin::TypeOrigin;
 pub use package_ref::PackageRef;
 pub use pieces::Cut;
 pub use relationships::{Mode, Resolved};

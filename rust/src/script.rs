@@ -246,6 +246,11 @@ impl Script {
         self.call(Code::MediaType, [name, b"", b"", b""], 0, length)
     }
 
+    /// [`Package::type_origin`].
+    pub fn type_origin(&mut self, name: &[u8], length: usize) -> &mut Script {
+        self.call(Code::TypeOrigin, [name, b"", b"", b""], 0, length)
+    }
+
     /// [`Package::put_relationship`].
     pub fn put_relationship(
         &mut self,

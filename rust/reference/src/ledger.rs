@@ -11,6 +11,7 @@ use group::{Group, Item};
 pub use pieces::Cut;
 use relationships::Relationship;
 use std::collections::BTreeMap;
+pub use types::Origin;
 use types::Types;
 
 const CAPACITY_MAX: u64 = 1_000_000;

@@ -60,7 +60,7 @@ impl<'a> Call<'a> {
         for (text, length) in texts.iter_mut().zip(four) {
             (*text, rest) = rest.split_at_checked(length as usize)?;
         }
-        (1..=20).contains(&code).then_some(Call {
+        (1..=21).contains(&code).then_some(Call {
             code,
             lent: lent as usize,
             size: script.len() - rest.len(),
@@ -73,7 +73,7 @@ impl<'a> Call<'a> {
     fn count(&self) -> u64 {
         match self.code {
             12 | 16 => 3,
-            19 => 2,
+            19 | 21 => 2,
             _ => 1,
         }
     }
@@ -115,6 +115,9 @@ pub fn make(
         18 => ledger.write_relationships(a, out).map(one),
         19 => ledger.cut_part(a, n).map(|cut| [cut.size, cut.longer, 0]),
         20 => ledger.join_part(a).map(done),
+        21 => ledger
+            .type_origin(a, out)
+            .map(|origin| [origin.kind, origin.length as u64, 0]),
         _ => Err(Refusal::UnreadableLine),
     }
 }
@@ -212,9 +215,33 @@ mod tests {
     }
 
     #[test]
+    fn type_origins() {
+        let script = [
+            call(1, 0, "", "", 100),
+            call(2, 0, "/a.x", "", 0),
+            call(21, 0, "/a.x", "", 0),
+            call(4, 0, "X", "a/b", 0),
+            call(21, 3, "/A.x", "", 7),
+            call(21, 0, "/a.x", "", 0),
+            call(6, 0, "/A.X", "a/b", 0),
+            call(21, 5, "/a.x", "", 0),
+        ]
+        .concat();
+        let mut out = [b'.'; 400];
+        let ran = run(&mut Ledger::default(), 40_000, &script, &mut out);
+        assert_eq!(ran, (8 * REPLY + 8, script.len(), 8));
+        assert_eq!(numbers(&out[80..]), [0, 2, 0, 0, 0]);
+        assert_eq!(numbers(&out[160..]), [0, 2, 1, 1, 0]);
+        assert_eq!(&out[200..203], b"X..");
+        assert_eq!(numbers(&out[203..]), [3, 2, 1, 0, 0]);
+        assert_eq!(numbers(&out[283..]), [0, 2, 2, 4, 0]);
+        assert_eq!(&out[323..328], b"/A.X.");
+    }
+
+    #[test]
     fn ends() {
         let start = call(1, 5, "", "", 100);
-        let wrong = call(21, 100, "", "", 0);
+        let wrong = call(22, 100, "", "", 0);
         let script = [&start[..], &wrong, &start].concat();
         let mut out = [7; 200];
         let mut ran = |script: &[u8], length| {

@@ -1,6 +1,6 @@
 //! A package that is only looked at.
 
-use super::{show, Resolved, Totals};
+use super::{show, Resolved, Totals, TypeOrigin};
 use crate::ffi;
 use crate::lent::{ask, ask_two, write, write_two};
 use crate::Refusal;
@@ -142,6 +142,21 @@ impl<'a> PackageRef<'a> {
         write_two(ffi::opc_media_type, self.buffer, name, out)
             .values()
             .map(|[length]| length)
+    }
+
+    /// Tells which entry a part's media type comes from, and copies its key.
+    ///
+    /// # Errors
+    ///
+    /// As [`Package::type_origin`](super::Package::type_origin).
+    pub fn type_origin<'o>(
+        &self,
+        name: &[u8],
+        out: &'o mut [u8],
+    ) -> Result<TypeOrigin<'o>, Refusal> {
+        let reply = write_two(ffi::opc_type_origin, self.buffer, name, out);
+        let values = reply.values()?;
+        Ok(TypeOrigin::from_values(values, out))
     }
 
     /// Writes the IRI that a relationship leads to, in a package whose IRI is

@@ -2,7 +2,7 @@
 
 use super::Code;
 use crate::ffi::Reply;
-use crate::package::{Cut, Resolved, Totals};
+use crate::package::{Cut, Resolved, Totals, TypeOrigin};
 use crate::Refusal;
 
 /// `N` bytes from a place on.
@@ -34,7 +34,9 @@ impl<'a> Answer<'a> {
         };
         let values = match code {
             Some(Code::Totals | Code::ResolveRelationship) => reply.values(),
-            Some(Code::CutPart) => reply.values().map(|[size, longer]| [size, longer, 0]),
+            Some(Code::CutPart | Code::TypeOrigin) => {
+                reply.values().map(|[first, second]| [first, second, 0])
+            }
             _ => reply.values().map(|[value]| [value, 0, 0]),
         };
         Answer { code, values, lent }
@@ -49,14 +51,19 @@ impl<'a> Answer<'a> {
         self.values.map(drop)
     }
 
-    /// The first value: the length of the item that was found or viewed, of
-    /// what the call wrote, or of the pieces of a cut but for the first ones.
+    /// The length of the item that was found or viewed, of what the call
+    /// wrote, or of the pieces of a cut but for the first ones. It is the first
+    /// value, but the second of a
+    /// [`type_origin`](crate::package::Package::type_origin).
     ///
     /// # Errors
     ///
     /// Those of the call.
     pub fn length(&self) -> Result<usize, Refusal> {
-        self.values.map(|[length, ..]| length)
+        self.values.map(|[first, second, _]| match self.code {
+            Some(Code::TypeOrigin) => second,
+            _ => first,
+        })
     }
 
     /// What the call wrote; of a viewed item the bytes that were copied. A
@@ -66,7 +73,7 @@ impl<'a> Answer<'a> {
     ///
     /// Those of the call.
     pub fn output(&self) -> Result<&'a [u8], Refusal> {
-        let [length, ..] = self.values?;
+        let length = self.length()?;
         let written = match self.code {
             Some(code) if code.writes() => length,
             _ => 0,
@@ -105,6 +112,39 @@ impl<'a> Answer<'a> {
     pub fn cut(&self) -> Result<Cut, Refusal> {
         assert_eq!(self.code, Some(Code::CutPart), "not the answer of a cut");
         self.values.map(|[size, longer, _]| Cut { size, longer })
+    }
+
+    /// What [`Package::type_origin`](crate::package::Package::type_origin)
+    /// answers; the key lies in [`Answer::lent`].
+    ///
+    /// # Errors
+    ///
+    /// Those of the call.
+    ///
+    /// # Panics
+    ///
+    /// If it is another call.
+    ///
+    /// ```
+    /// use zombirels::package::{Package, TypeOrigin, OVERHEAD};
+    /// use zombirels::script::Script;
+    /// let mut script = Script::new();
+    /// script.put_item(b"/t3.tiff", b"tile").put_default(b"TIFF", b"image/tiff");
+    /// script.type_origin(b"/t3.tiff", 255);
+    ///
+    /// let mut buffer = vec![0; 100 + OVERHEAD];
+    /// let mut slide = Package::start(&mut buffer, 100)?;
+    /// let mut out = vec![0; script.output_len()];
+    /// let answers: Vec<_> = slide.run(&script, &mut out).answers().collect();
+    /// assert_eq!(answers[2].type_origin(), Ok(TypeOrigin::Default(b"TIFF")));
+    /// assert_eq!(answers[2].output(), Ok(&b"TIFF"[..]));
+    /// # Ok::<(), zombirels::Refusal>(())
+    /// ```
+    pub fn type_origin(&self) -> Result<TypeOrigin<'a>, Refusal> {
+        let expected = Some(Code::TypeOrigin);
+        assert_eq!(self.code, expected, "not the answer of a type origin");
+        let [kind, length, _] = self.values?;
+        Ok(TypeOrigin::from_values([kind, length], self.lent))
     }
 
     /// What

@@ -1,6 +1,6 @@
 //! The codes of a script's calls.
 
-/// The calls of a script, by their codes from 1 to 20.
+/// The calls of a script, by their codes from 1 to 21.
 #[allow(missing_docs)] // each is the method of that name
 #[derive(Clone, Copy, Debug, PartialEq, Eq, PartialOrd, Ord, Hash)]
 pub enum Code {
@@ -24,11 +24,12 @@ pub enum Code {
     WriteRelationships,
     CutPart,
     JoinPart,
+    TypeOrigin,
 }
 
 impl Code {
     /// All codes, from 1 on.
-    pub const ALL: [Code; 20] = [
+    pub const ALL: [Code; 21] = [
         Code::Start,
         Code::PutItem,
         Code::DropItem,
@@ -49,9 +50,10 @@ impl Code {
         Code::WriteRelationships,
         Code::CutPart,
         Code::JoinPart,
+        Code::TypeOrigin,
     ];
 
-    /// The number of the code, 1 to 20.
+    /// The number of the code, 1 to 21.
     #[must_use]
     pub fn number(self) -> u32 {
         self as u32
@@ -69,6 +71,6 @@ impl Code {
     #[must_use]
     pub fn writes(self) -> bool {
         let writers = Code::ReadPart..=Code::WriteRelationships;
-        self == Code::ViewItem || writers.contains(&self)
+        matches!(self, Code::ViewItem | Code::TypeOrigin) || writers.contains(&self)
     }
 }

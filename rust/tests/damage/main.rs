@@ -7,6 +7,7 @@
 
 mod cuts;
 mod none;
+mod origins;
 mod random;
 #[path = "../support/mod.rs"]
 mod support;
@@ -16,7 +17,7 @@ use std::collections::BTreeMap;
 use std::sync::atomic::{AtomicUsize, Ordering};
 use std::sync::Once;
 use std::time::Duration;
-use support::calls::Call;
+use support::calls::{Answer, Call};
 use support::{show, Random};
 use zombirels::package::{Package, OVERHEAD};
 use zombirels::script::Code;
@@ -30,6 +31,9 @@ const MARK: usize = 8;
 /// The header, and a row's place in the table behind it.
 const HEADER: usize = 64;
 const SLOT: usize = 24;
+
+/// The numbers that a type origin answers, whatever the buffer holds.
+const ORIGIN_NUMBERS: [u64; 5] = [0, 1, 3, 4, 13];
 
 /// Counts the calls that ended. If none does for a minute, one hangs.
 static ENDED: AtomicUsize = AtomicUsize::new(0);
@@ -53,15 +57,38 @@ fn watch() {
 struct Seen {
     calls: usize,
     numbers: BTreeMap<u64, usize>,
-    /// How often each number came for cuts and joins.
-    cuts: BTreeMap<(Code, u64), usize>,
+    /// How often each number came for cuts, joins and type origins.
+    later: BTreeMap<(Code, u64), usize>,
+    /// How often a type came from each kind of entry.
+    origins: BTreeMap<usize, usize>,
 }
 
 impl Seen {
+    fn add(&mut self, call: &Call, answer: Answer) {
+        let number = answer.err().map_or(0, |(number, _)| number);
+        self.calls += 1;
+        *self.numbers.entry(number).or_insert(0) += 1;
+        if call.code >= Code::CutPart {
+            *self.later.entry((call.code, number)).or_insert(0) += 1;
+        }
+        if let (Code::TypeOrigin, Ok([kind, ..])) = (call.code, answer) {
+            *self.origins.entry(kind).or_insert(0) += 1;
+        }
+    }
+
+    /// Checks that the call met each of these numbers.
+    fn check(&self, code: Code, numbers: &[u64]) {
+        for &number in numbers {
+            let met = self.later.contains_key(&(code, number));
+            assert!(met, "{code:?} {number} never came");
+        }
+    }
+
     fn print(&self, test: &str) {
         let (calls, numbers) = (self.calls, &self.numbers);
         println!("{test}: {calls} calls, by number: {numbers:?}");
-        println!("{test}: cuts and joins: {:?}", self.cuts);
+        println!("{test}: cuts, joins and type origins: {:?}", self.later);
+        println!("{test}: type origins by kind: {:?}", self.origins);
     }
 }
 
@@ -78,19 +105,17 @@ fn make(random: &mut Random, seen: &mut Seen, buffer: &mut [u8], call: &Call) {
         assert!(*buffer == before, "refusal {number} changed the package");
         assert!(out == out_before, "refusal {number} changed the output");
     }
-    let length = answer.map_or(0, |[length, ..]| length);
-    if call.code == Code::ViewItem {
-        assert!(length <= before.len());
+    match call.code {
+        Code::ViewItem => assert!(answer.is_ok_and(|[length, ..]| length <= before.len())),
+        Code::TypeOrigin => assert!(ORIGIN_NUMBERS.contains(&number), "{number}"),
+        _ => {}
     }
     // what an accepted call didn't write is kept
-    let writes = call.code.writes() && call.code != Code::ViewItem;
-    let written = if writes { length } else { 0 };
+    let written = call.written(answer);
     assert!(out[written..] == out_before[written..], "{}", show(&out));
-    seen.calls += 1;
-    *seen.numbers.entry(number).or_insert(0) += 1;
-    if matches!(call.code, Code::CutPart | Code::JoinPart) {
-        *seen.cuts.entry((call.code, number)).or_insert(0) += 1;
-    }
+    let kept = call.changes() || *buffer == before;
+    assert!(kept, "{:?} changed the package", call.code);
+    seen.add(call, answer);
 }
 
 /// A package as calls make it, with gaps from dropped entries, in a buffer of

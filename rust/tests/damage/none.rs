@@ -7,7 +7,7 @@ use zombirels::package::{Mode, Package, PackageRef, Totals, CAPACITY_MAX, OVERHE
 use zombirels::Refusal;
 
 /// How many calls are made on each buffer.
-const NONE_CALLS: usize = 24;
+const NONE_CALLS: usize = 26;
 
 /// Each of these calls on the buffer gives 1, and the view is empty.
 fn is_no_package(buffer: &mut [u8]) {
@@ -33,6 +33,8 @@ fn is_no_package(buffer: &mut [u8]) {
     assert_eq!(package.put_override(b"/a", b"a/b"), Err(one));
     assert_eq!(package.drop_override(b"no name"), Err(one));
     assert_eq!(package.media_type(b"/a", &mut out), Err(one));
+    assert_eq!(package.type_origin(b"/a", &mut out), Err(one));
+    assert_eq!(package.type_origin(b"no name", &mut []), Err(one));
     assert_eq!(package.write_types(&mut out), Err(one));
     assert_eq!(package.write_relationships(b"no", &mut out), Err(one));
     let mode = Mode::Internal;

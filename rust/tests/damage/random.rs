@@ -72,7 +72,7 @@ pub fn cut_or_join(random: &mut Random) -> Call {
 pub fn random_call(random: &mut Random) -> Call {
     let length = random.pick(&[0, 1, 2, 7, 255, 600]);
     let (name, other) = (name(random), name(random));
-    match random.below(34) {
+    match random.below(37) {
         0 => {
             let size = random.below(400);
             Call::new(Code::PutItem, &[&name, &random.bytes(size)])
@@ -103,6 +103,7 @@ pub fn random_call(random: &mut Random) -> Call {
         25..=27 if random.once_in(3) => Call::new(Code::WriteTypes, &[]).with_output(length * 12),
         25..=27 => Call::new(Code::WriteRelationships, &[&source(random)]).with_output(length * 12),
         28..=31 => cut_or_join(random),
+        32..=34 => Call::new(Code::TypeOrigin, &[&name]).with_output(length),
         _ => Call::new(Code::Totals, &[]),
     }
 }

@@ -28,6 +28,7 @@ impl List {
             Style::FullFields if !random.once_in(10) => {
                 format!("Ext{}", self.extensions.len() % 100).into_bytes()
             }
+            Style::Origins if !random.once_in(6) => self.extension_of_a_part(random),
             _ => field(random, EXTENSIONS, ODD_EXTENSIONS),
         }
     }
@@ -134,6 +135,7 @@ impl List {
                 true => 40,
                 false => random.pick(&[0, 20]),
             },
+            Style::Origins if !random.once_in(8) => random.below(40),
             _ => random.below(100),
         };
         match which {

@@ -1,5 +1,6 @@
 //! A random list of calls: its plan, what is held by now, the next call.
 
+use crate::origins::typed_name;
 use crate::support::calls::Call;
 use crate::support::Random;
 use crate::texts::SEGMENTS;
@@ -24,6 +25,8 @@ pub enum Style {
     Cuts,
     /// Few parts, types and relationships with colliding keys.
     Fields,
+    /// Parts whose types come from Overrides, from Defaults or from neither.
+    Origins,
     /// Types or relationships without end, so that their sets get full.
     FullFields,
 }
@@ -59,6 +62,7 @@ impl List {
             Style::Tiles => 5 + random.below(60),
             Style::Cuts => 1 + random.below(20),
             Style::Fields => 1 + random.below(8),
+            Style::Origins => 2 + random.below(8),
             Style::FullFields => 70 + random.below(40),
         };
         let mut list = List {
@@ -94,20 +98,22 @@ impl List {
         if random.once_in(40) {
             return self.stream_call(random);
         }
-        // of a hundred calls: on fields, and cuts and joins
-        let (fields, cuts) = match self.style {
-            Style::Full => (3, 2),
-            Style::Pieces => (8, 8),
-            Style::Crowded | Style::Tight => (15, 8),
-            Style::Tiles => (15, 4),
-            Style::Cuts => (12, 35),
-            Style::Fields => (70, 3),
-            Style::FullFields => (96, 1),
+        // of a hundred calls: on fields, cuts and joins, type origins
+        let (fields, cuts, origins) = match self.style {
+            Style::Full => (3, 2, 1),
+            Style::Pieces => (8, 8, 2),
+            Style::Crowded | Style::Tight => (15, 8, 4),
+            Style::Tiles => (15, 4, 2),
+            Style::Cuts => (12, 35, 4),
+            Style::Fields => (70, 3, 8),
+            Style::Origins => (35, 2, 30),
+            Style::FullFields => (96, 1, 1),
         };
         let room = ledger.room() as usize;
         match random.below(100) {
             n if n < fields => self.field_call(random, room),
             n if n < fields + cuts => self.cut_call(random, ledger),
+            n if n < fields + cuts + origins => self.origin_call(random, ledger),
             _ => self.item_call(random, room),
         }
     }
@@ -130,7 +136,7 @@ fn random_capacity(random: &mut Random, style: Style) -> u64 {
         Style::Pieces => 2000 + random.below(6000),
         Style::Tiles => 20_000 + random.below(60_000),
         Style::Cuts => random.pick(&[400, 5000, 20_000]) + random.below(3000),
-        Style::Fields => random.below(8000),
+        Style::Fields | Style::Origins => random.below(8000),
         Style::FullFields => 40_000,
     };
     capacity as u64
@@ -141,6 +147,7 @@ fn random_prefix(random: &mut Random, style: Style, number: usize) -> Vec<u8> {
         Style::Full | Style::Tiles | Style::FullFields => {
             format!("/Tiles/L{}/t{number}.tiff", number % 3).into_bytes()
         }
+        Style::Origins => typed_name(random),
         _ if random.once_in(12) => {
             let length = 250 + random.below(7); // up to 256, one too long
             let mut name = b"/long".to_vec();
@@ -158,6 +165,8 @@ fn random_last(random: &mut Random, style: Style) -> Option<usize> {
         Style::Full => random.once_in(8).then(|| random.below(3)),
         Style::Pieces => (!random.once_in(8)).then(|| random.below(90)),
         Style::Tiles | Style::Cuts => random.once_in(3).then(|| random.below(6)),
-        Style::Fields | Style::FullFields => random.once_in(4).then(|| random.below(3)),
+        Style::Fields | Style::FullFields | Style::Origins => {
+            random.once_in(4).then(|| random.below(3))
+        }
     }
 }

@@ -1,7 +1,7 @@
 //! Random lists of calls on one package: the archive beside the ledger of the
 //! reference. Compared are every answer, every output byte, every viewed byte.
 //!
-//! There are eight kinds of lists, 24,000 lists in all. ZOMBIRELS_LISTS sets how
+//! There are nine kinds of lists, 27,000 lists in all. ZOMBIRELS_LISTS sets how
 //! many each kind gets. From 1,000 on it is checked that each kind meets the
 //! refusals that it is there for.
 
@@ -9,6 +9,7 @@ mod cuts;
 mod fields;
 mod items;
 mod list;
+mod origins;
 mod pair;
 #[path = "../support/mod.rs"]
 mod support;
@@ -109,7 +110,7 @@ fn run_lists(style: Style, expected: &[(Code, &[u64])], resolved: &[(usize, usiz
     let (numbers, parameters) = (&seen.numbers, &seen.parameters);
     println!("{test}: {lists} lists, {calls} calls compared; by call and number: {numbers:?}");
     println!("{test}: with parameters: {parameters:?}");
-    println!("{test}: cuts and joins: {:?}", seen.cuts);
+    println!("{test}: remarkable: {:?}", seen.kinds);
     if lists < COVERED {
         return;
     }
@@ -123,8 +124,13 @@ fn run_lists(style: Style, expected: &[(Code, &[u64])], resolved: &[(usize, usiz
         let met = seen.parameters.contains_key(&(code, number));
         assert!(met, "{test}: {code:?} {number} never came with parameters");
     }
-    for kind in cuts::KINDS.iter().filter(|_| style == Style::Cuts) {
-        assert!(seen.cuts.contains_key(kind), "{test}: {kind} never came");
+    let kinds = match style {
+        Style::Cuts => &cuts::KINDS[..],
+        Style::Origins => &origins::KINDS,
+        _ => &[],
+    };
+    for kind in kinds {
+        assert!(seen.kinds.contains_key(kind), "{test}: {kind} never came");
     }
     for answer in resolved {
         let met = seen.resolved.contains(answer);
@@ -245,6 +251,7 @@ fn fields_lists() {
             (Code::PutOverride, &[0, 4, 7, 10, 15]),
             (Code::DropOverride, &[0, 4, 13]),
             (Code::MediaType, &[0, 3, 4, 13, 14]),
+            (Code::TypeOrigin, &[0, 3, 4, 13]),
             (Code::WriteTypes, &[0, 3]),
             (Code::WriteRelationships, &[0, 3, 4, 5]),
             (Code::PutRelationship, &[0, 4, 5, 8, 9, 10, 15]),
@@ -253,6 +260,22 @@ fn fields_lists() {
         ],
         // internal, not held and held, and external
         &[(0, 0), (0, 1), (1, 0)],
+    );
+}
+
+#[test]
+fn origins_lists() {
+    run_lists(
+        Style::Origins,
+        &[
+            (Code::TypeOrigin, &[0, 3, 4, 13]),
+            (Code::MediaType, &[0, 13, 14]),
+            (Code::PutDefault, &[0, 7, 10, 15]),
+            (Code::DropDefault, &[0, 13]),
+            (Code::PutOverride, &[0, 4, 7, 10, 15]),
+            (Code::DropOverride, &[0, 4, 13]),
+        ],
+        &[],
     );
 }
 

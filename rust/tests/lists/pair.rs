@@ -1,6 +1,7 @@
 //! One package on both sides: each call is made twice and compared.
 
 use crate::cuts::Before;
+use crate::origins;
 use crate::support::calls::{Answer, Call};
 use crate::support::outputs::Outputs;
 use crate::support::Random;
@@ -16,8 +17,8 @@ pub struct Seen {
     pub numbers: BTreeMap<(Code, u64), usize>,
     /// The same of the calls that put or write a type with parameters.
     pub parameters: BTreeMap<(Code, u64), usize>,
-    /// What was remarkable about cuts and joins.
-    pub cuts: BTreeMap<&'static str, usize>,
+    /// What was remarkable about cuts, joins and type origins.
+    pub kinds: BTreeMap<&'static str, usize>,
     /// The modes of resolved targets, and whether their parts were held.
     pub resolved: BTreeSet<(usize, usize)>,
 }
@@ -65,7 +66,9 @@ impl Pair<'_> {
         let mut outputs = Outputs::new(random, call.lent);
         let cuts = matches!(call.code, Code::CutPart | Code::JoinPart);
         let cut = cuts.then(|| Before::new(call, &self.ledger));
-        let kept = (call.changes() && random.once_in(4)).then(|| self.package.as_bytes().to_vec());
+        let asks = call.code == Code::TypeOrigin;
+        let keep = (call.changes() || asks) && random.once_in(4);
+        let kept = keep.then(|| self.package.as_bytes().to_vec());
         let answer = call.by_archive(&mut self.package, outputs.archive());
         let right = call.by_reference(&mut self.ledger, length, outputs.reference());
         let told = || {
@@ -73,21 +76,26 @@ impl Pair<'_> {
             format!("buffer {length}\n{}", calls.join("\n"))
         };
         assert!(answer == right, "{}: {answer:?} for {right:?}", told());
-        outputs.check(answer.map_or(0, |[written, ..]| written), told);
+        outputs.check(call.written(answer), told);
         if call.code == Code::ViewItem {
             let name = &call.texts[0];
             let alike = self.package.view_item(name) == self.ledger.view_item(name);
             assert!(alike, "{}: the views differ", told());
         }
         match kept {
-            Some(kept) if answer.is_err() => {
+            Some(kept) if asks || answer.is_err() => {
                 assert!(self.package.as_bytes() == kept, "{} changed", call.show());
             }
             _ => {}
         }
         self.seen.add(call, answer, outputs.archive());
-        for kind in cut.map_or(Vec::new(), |before| before.kinds(call, answer)) {
-            *self.seen.cuts.entry(kind).or_insert(0) += 1;
+        let kinds = match cut {
+            Some(before) => before.kinds(call, answer),
+            None if asks => origins::kinds(call, answer, &self.ledger),
+            None => Vec::new(),
+        };
+        for kind in kinds {
+            *self.seen.kinds.entry(kind).or_insert(0) += 1;
         }
         self.made.push(call.clone());
         answer

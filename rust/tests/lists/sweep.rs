@@ -10,9 +10,10 @@ use zombirels::package::CAPACITY_MAX;
 use zombirels::script::Code;
 
 impl Pair<'_> {
-    /// Asks for each item, each part at each position, its type, what each
-    /// relationship leads to, the streams, the totals, with outputs of each
-    /// length. Then drops the types and relationships, one by one.
+    /// Asks for each item, each part at each position, its type and what this
+    /// comes from, what each relationship leads to, the streams, the totals,
+    /// with outputs of each length. Then drops the types and relationships, one
+    /// by one.
     pub fn sweep(&mut self, random: &mut Random, list: &List) {
         let items = self.ledger.items().map(|(name, _)| name.to_vec());
         let names: BTreeSet<Vec<u8>> = items.chain(list.held.iter().cloned()).collect();
@@ -52,21 +53,25 @@ impl Pair<'_> {
             let content = read.expect("a part")[0];
             let asked = random.flip_case(name);
             let media_type = self.ask(random, Code::MediaType, &[&asked], 127);
+            let media_type = media_type.map_or(0, |[length, ..]| length);
+            let asked = random.flip_case(name);
+            let origin = self.ask(random, Code::TypeOrigin, &[&asked], 255);
+            let [_, key, _] = origin.expect("a part");
             if position == chosen {
-                let lengths = [content, media_type.map_or(0, |[length, ..]| length)];
+                let lengths = [content, media_type, key];
                 self.sweep_outputs(random, position as u64, name, lengths);
             }
         }
     }
 
-    /// A part with outputs of each length; those of its content and its media
-    /// type are told.
+    /// A part with outputs of each length; those of its content, its media
+    /// type and the key that this comes from are told.
     fn sweep_outputs(
         &mut self,
         random: &mut Random,
         position: u64,
         name: &[u8],
-        [content, media_type]: [usize; 2],
+        [content, media_type, key]: [usize; 3],
     ) {
         for length in 0..=name.len() + 2 {
             let call = Call::new(Code::PartAt, &[])
@@ -84,6 +89,10 @@ impl Pair<'_> {
         }
         for length in 0..=media_type + 2 {
             self.ask(random, Code::MediaType, &[name], length).ok();
+        }
+        for length in 0..=key + 2 {
+            let answer = self.ask(random, Code::TypeOrigin, &[name], length);
+            assert_eq!(answer.is_ok(), length >= key);
         }
     }
 

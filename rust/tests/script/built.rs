@@ -34,6 +34,7 @@ fn add(script: &mut Script, call: &Call) {
         Code::WriteRelationships => script.write_relationships(a, lent),
         Code::CutPart => script.cut_part(a, n),
         Code::JoinPart => script.join_part(a),
+        Code::TypeOrigin => script.type_origin(a, lent),
     };
 }
 
@@ -87,7 +88,7 @@ fn codes() {
         assert_eq!(Code::from_number(code.number()), Some(code));
     }
     assert_eq!(Code::from_number(0), None);
-    assert_eq!(Code::from_number(21), None);
+    assert_eq!(Code::from_number(22), None);
     assert_eq!(Code::from_number(u32::MAX), None);
 }
 

@@ -21,7 +21,7 @@ impl Call {
     pub fn reply_bytes(&self, answer: Answer) -> Vec<u8> {
         let count = match self.code {
             Code::Totals | Code::ResolveRelationship => 3,
-            Code::CutPart => 2,
+            Code::CutPart | Code::TypeOrigin => 2,
             _ => 1,
         };
         let (number, [first, second, third]) = match answer {

@@ -6,14 +6,15 @@ use crate::support::calls::Call;
 use crate::support::Random;
 use zombirels::script::{Code, REPLY_SIZE};
 
-/// Six short calls, each lent some bytes.
-pub fn short_calls() -> [Call; 6] {
+/// Seven short calls, most of them lent some bytes.
+pub fn short_calls() -> [Call; 7] {
     [
-        Call::new(Code::PutItem, &[b"/a", b"hello"]),
-        Call::new(Code::PutItem, &[b"/A", b"again"]).with_output(3),
-        Call::new(Code::PutDefault, &[b"x", b"a/b"]),
-        Call::new(Code::ViewItem, &[b"/A"]).with_output(2),
-        Call::new(Code::ReadPart, &[b"/a"])
+        Call::new(Code::PutItem, &[b"/a.x", b"hello"]),
+        Call::new(Code::PutItem, &[b"/A.x", b"again"]).with_output(3),
+        Call::new(Code::PutDefault, &[b"X", b"a/b"]),
+        Call::new(Code::TypeOrigin, &[b"/a.x"]).with_output(4),
+        Call::new(Code::ViewItem, &[b"/A.x"]).with_output(2),
+        Call::new(Code::ReadPart, &[b"/a.x"])
             .with_number(1)
             .with_output(9),
         Call::new(Code::Totals, &[]).with_output(1),
@@ -71,7 +72,7 @@ fn random_bytes() {
             for at in (0..script.len()).step_by(4).take(8 * small) {
                 let end = script.len().min(at + 4);
                 script[at..end].fill(0);
-                script[at] = random.pick(&[0, 1, 2, 3, 10, 11, 12, 18, 19, 20, 21]);
+                script[at] = random.pick(&[0, 1, 2, 3, 10, 11, 12, 18, 19, 20, 21, 22]);
             }
         }
         let mut pair = Pair::new(50, 0);
@@ -100,8 +101,8 @@ fn codes_and_lengths() {
     let refused = (2 * REPLY_SIZE, first.len(), 1);
     for code in [
         0,
-        21,
         22,
+        23,
         255,
         256,
         257,

@@ -21,6 +21,7 @@ use edges::short_calls;
 use pair::Pair;
 use random::{random_calls, random_length, random_tail};
 use std::collections::BTreeMap;
+use support::calls::Call;
 use support::Random;
 use zombirels::package::{Package, CAPACITY_MAX, OVERHEAD};
 use zombirels::script::{Answer, Code, Script, REPLY_SIZE};
@@ -34,21 +35,59 @@ const COVERED: usize = 2000;
 
 /// Numbers that each call must have met, beside 0.
 #[rustfmt::skip]
-const EXPECTED: [(Code, &[u64]); 20] = [
+const EXPECTED: [(Code, &[u64]); 21] = [
     (Code::Start, &[2]), (Code::PutItem, &[4, 5, 6, 10, 11, 12, 15]), (Code::DropItem, &[4, 5, 6, 13]), (Code::PutDefault, &[7, 10, 15]),
     (Code::DropDefault, &[7, 13]), (Code::PutOverride, &[4, 7, 10, 15]), (Code::DropOverride, &[4, 13]),
     (Code::PutRelationship, &[4, 5, 8, 9, 10, 15]), (Code::DropRelationship, &[4, 5, 8, 13]), (Code::FindItem, &[4, 6, 13]),
     (Code::ViewItem, &[]), (Code::Totals, &[]), (Code::ReadPart, &[4, 13]), (Code::MediaType, &[3, 4, 13, 14]), (Code::PartAt, &[3, 13]),
     (Code::ResolveRelationship, &[3, 4, 5, 8, 9, 13]), (Code::WriteTypes, &[3]), (Code::WriteRelationships, &[3, 4, 5]),
-    (Code::CutPart, &[4, 13, 15, 17, 18]), (Code::JoinPart, &[4, 13, 18]),
+    (Code::CutPart, &[4, 13, 15, 17, 18]), (Code::JoinPart, &[4, 13, 18]), (Code::TypeOrigin, &[3, 4, 13]),
 ];
+
+/// What came in the scripts.
+#[derive(Default)]
+struct Seen {
+    /// How often each call met each number, with parameters put or not.
+    numbers: BTreeMap<(Code, u64, bool), usize>,
+    /// How often a type came from each kind of entry.
+    origins: BTreeMap<u64, usize>,
+}
+
+impl Seen {
+    fn add(&mut self, call: &Call, [number, _, first, ..]: [u64; 5]) {
+        let key = (call.code, number, call.puts_parameters());
+        *self.numbers.entry(key).or_insert(0) += 1;
+        if (call.code, number) == (Code::TypeOrigin, 0) {
+            *self.origins.entry(first).or_insert(0) += 1;
+        }
+    }
+
+    /// Checks that every expected number of every call came, types with
+    /// parameters that were put and such that were refused, and types from
+    /// entries of each kind.
+    fn check(&self) {
+        for (code, numbers) in EXPECTED {
+            for &number in numbers.iter().chain(&[0]) {
+                let met = |parameters| self.numbers.contains_key(&(code, number, parameters));
+                assert!(met(false) || met(true), "{code:?} {number} never came");
+            }
+        }
+        for code in [Code::PutDefault, Code::PutOverride] {
+            for number in [0, 7] {
+                let met = self.numbers.contains_key(&(code, number, true));
+                assert!(met, "{code:?} {number} never came with parameters");
+            }
+        }
+        assert!(self.origins.keys().eq(&[0, 1, 2]), "{:?}", self.origins);
+    }
+}
 
 /// Random scripts of up to 60 calls, with outputs that suffice or not.
 #[test]
 fn random_scripts() {
     let mut random = Random::new("random scripts");
     let scripts = support::count("ZOMBIRELS_SCRIPTS", SCRIPTS);
-    let mut seen = BTreeMap::new();
+    let mut seen = Seen::default();
     let (mut made, mut complete, mut unread) = (0, 0, 0);
     for _ in 0..scripts {
         let capacity = random.pick(&[0, 300, 2000, 6000, 6000]);
@@ -63,9 +102,7 @@ fn random_scripts() {
         let mut at = 0;
         // a tail may have begun with a call
         for call in &calls[..count.min(calls.len())] {
-            let number = reply_at(&out[at..])[0];
-            let key = (call.code, number, call.puts_parameters());
-            *seen.entry(key).or_insert(0) += 1;
+            seen.add(call, reply_at(&out[at..]));
             at += call.span();
         }
         made += count;
@@ -75,29 +112,16 @@ fn random_scripts() {
     println!(
         "random scripts: {scripts} scripts, {complete} complete, {unread} with no call behind"
     );
-    println!("{made} calls made; by code, number and parameters: {seen:?}");
+    println!(
+        "{made} calls made; by code, number and parameters: {:?}",
+        seen.numbers
+    );
+    println!("type origins by kind: {:?}", seen.origins);
     if scripts < COVERED {
         return;
     }
     assert!(complete * 4 > scripts && complete < scripts && unread > 0);
-    check_seen(&seen);
-}
-
-/// Checks that every expected number of every call came, and types with
-/// parameters that were put and such that were refused.
-fn check_seen(seen: &BTreeMap<(Code, u64, bool), usize>) {
-    for (code, numbers) in EXPECTED {
-        for &number in numbers.iter().chain(&[0]) {
-            let met = |parameters| seen.contains_key(&(code, number, parameters));
-            assert!(met(false) || met(true), "{code:?} {number} never came");
-        }
-    }
-    for code in [Code::PutDefault, Code::PutOverride] {
-        for number in [0, 7] {
-            let met = seen.contains_key(&(code, number, true));
-            assert!(met, "{code:?} {number} never came with parameters");
-        }
-    }
+    seen.check();
 }
 
 #[test]

@@ -21,6 +21,9 @@ pub const NAMES: &[&[u8]] = &[
 #[rustfmt::skip]
 pub const ODD_NAMES: &[&[u8]] = &[b"", b"/", b"a", b"/a/", b"/_rels/.rels", b"/x/[01].piece", b"/p/[", b"/\xC3"];
 
+/// Few names, so that types come from entries of each kind.
+const TYPED: &[&[u8]] = &[b"/b.tiff", b"/B.TIFF", b"/t1"];
+
 pub const SOURCES: &[&[u8]] = &[b"/", b"/a", b"/b.tiff", b"/C/d.xml", b"/_rels/.rels", b"a"];
 pub const EXTENSIONS: &[&[u8]] = &[b"tiff", b"TIFF", b"xml", b"&", b"a.b", b""];
 pub const IDS: &[&[u8]] = &[b"r1", b"r2", b"R1", b"1"];
@@ -65,7 +68,12 @@ pub fn random_call(random: &mut Random, lent: u64) -> Call {
     let (source, id) = (text(random, SOURCES), text(random, IDS));
     let (kind, target) = (text(random, KINDS), text(random, TARGETS));
     let base = text(random, BASES);
-    let name = name(random);
+    let name = match code {
+        Code::PutOverride | Code::MediaType | Code::TypeOrigin if random.once_in(2) => {
+            random.pick(TYPED).to_vec()
+        }
+        _ => name(random),
+    };
     let (a, b, c, d) = match code {
         Code::PutItem => (name, other, vec![], vec![]),
         Code::PutDefault | Code::DropDefault => (extension, media_type, vec![], vec![]),
@@ -84,8 +92,19 @@ pub fn random_call(random: &mut Random, lent: u64) -> Call {
         let length = random.pick(&[0, 0, 1, 9]);
         *text = random.bytes(length);
     }
+    let number = number(random, code, lent);
+    Call {
+        code,
+        lent: 0,
+        texts,
+        number,
+    }
+}
+
+/// The number of a call; the buffer takes a capacity of `lent`.
+fn number(random: &mut Random, code: Code, lent: u64) -> u64 {
     let any = random.next();
-    let number = match code {
+    match code {
         Code::Start => random.pick(&[lent, lent, lent / 2, lent + 1, CAPACITY_MAX + 1, any]),
         Code::PutRelationship if random.once_in(16) => random.pick(&[2, 1 << 32, any]),
         Code::PutRelationship => any % 2,
@@ -93,12 +112,6 @@ pub fn random_call(random: &mut Random, lent: u64) -> Call {
         Code::PartAt => random.pick(&[0, 1, 2, 3, 1 << 32, u64::MAX]),
         Code::CutPart => random.pick(&[0, 1, 2, 3, 5, 11, 21, 200, 256, 257, (1 << 32) + 2, any]),
         _ => random.pick(&[0, any]),
-    };
-    Call {
-        code,
-        lent: 0,
-        texts,
-        number,
     }
 }
 
@@ -126,7 +139,11 @@ pub fn random_calls(random: &mut Random, pair: &Pair, capacity: u64) -> Vec<Call
         let mut call = random_call(random, lent);
         call.lent = LONG;
         reference::script::run(&mut shadow, pair.length(), &call.bytes(), &mut out);
-        let exact = reply_at(&out)[2] as usize;
+        let [_, _, first, second, _] = reply_at(&out).map(|field| field as usize);
+        let exact = match call.code {
+            Code::TypeOrigin => second,
+            _ => first,
+        };
         let some = random.below(400);
         let lengths = [
             0,
@@ -170,7 +187,7 @@ pub fn random_tail(random: &mut Random) -> Vec<u8> {
     match random.below(8) {
         0 => whole[..random.below(whole.len())].to_vec(),
         1 => {
-            let code = random.pick(&[0, 21, 255, 256 + 2, 1 << 24, u32::MAX]);
+            let code = random.pick(&[0, 22, 255, 256 + 2, 1 << 24, u32::MAX]);
             let mut bytes = whole;
             bytes[..4].copy_from_slice(&code.to_le_bytes());
             bytes

@@ -8,7 +8,7 @@ use crate::random::{random_calls, random_length, random_tail};
 use crate::support::calls::{self, Call};
 use crate::support::{self, numbers, Random};
 use crate::SCRIPTS;
-use zombirels::package::{Package, Resolved};
+use zombirels::package::{Package, Resolved, TypeOrigin};
 use zombirels::script::{Answer, Code, HEAD_SIZE, REPLY_SIZE};
 
 /// The same calls by themselves give the same answers and leave the same
@@ -61,12 +61,12 @@ fn check_answer(answer: &Answer, call: &Call, lent: &[u8], expected: calls::Answ
     assert_eq!(answer.values.map_err(numbers), expected, "{}", call.show());
     assert!(answer.lent == lent, "{}", call.show());
     assert_eq!(answer.done().is_ok(), expected.is_ok());
-    assert_eq!(answer.length().map_err(numbers), expected.map(|v| v[0]));
-    let written = expected.map(|[length, ..]| match call.code {
-        Code::ViewItem => &lent[..length.min(lent.len())],
-        code if code.writes() => &lent[..length],
-        _ => &[],
+    let length = expected.map(|[first, second, _]| match call.code {
+        Code::TypeOrigin => second,
+        _ => first,
     });
+    assert_eq!(answer.length().map_err(numbers), length);
+    let written = expected.map(|_| &lent[..call.written(expected)]);
     assert_eq!(answer.output().map_err(numbers), written);
     match call.code {
         Code::Totals => {
@@ -81,6 +81,13 @@ fn check_answer(answer: &Answer, call: &Call, lent: &[u8], expected: calls::Answ
         Code::CutPart => {
             let cut = answer.cut().map_err(numbers);
             assert_eq!(cut.map(|cut| [cut.size, cut.longer, 0]), expected);
+        }
+        Code::TypeOrigin => {
+            let origin = answer.type_origin().map_err(numbers);
+            let kind = expected.map(|[kind, ..]| kind as u64);
+            assert_eq!(origin.map(TypeOrigin::number), kind);
+            let key = origin.map(|origin| origin.key().unwrap_or_default());
+            assert_eq!(key, written);
         }
         _ => {}
     }
@@ -148,6 +155,7 @@ fn every_call() -> Vec<Call> {
         Call::new(Code::Totals, &[]),
         Call::new(Code::ReadPart, &[b"/a"]).with_output(5000),
         Call::new(Code::MediaType, &[b"/a"]).with_output(100),
+        Call::new(Code::TypeOrigin, &[b"/a"]).with_output(100),
         Call::new(Code::PartAt, &[])
             .with_number(300)
             .with_output(100),

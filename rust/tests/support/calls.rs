@@ -41,7 +41,18 @@ impl Call {
 
     /// Whether the call changes the package if it is accepted.
     pub fn changes(&self) -> bool {
-        self.code < Code::FindItem || self.code >= Code::CutPart
+        self.code < Code::FindItem || matches!(self.code, Code::CutPart | Code::JoinPart)
+    }
+
+    /// How many of the lent bytes the call wrote if this is its answer.
+    pub fn written(&self, answer: Answer) -> usize {
+        let [first, second, _] = answer.unwrap_or_default();
+        match self.code {
+            Code::ViewItem => first.min(self.lent),
+            Code::TypeOrigin => second,
+            code if code.writes() => first,
+            _ => 0,
+        }
     }
 
     /// Whether the call puts a media type with parameters, well-formed or not.
@@ -88,6 +99,10 @@ impl Call {
             Code::WriteRelationships => package.write_relationships(a, out).map(one),
             Code::CutPart => package.cut_part(a, n).map(|cut| [cut.size, cut.longer, 0]),
             Code::JoinPart => package.join_part(a).map(done),
+            Code::TypeOrigin => package.type_origin(a, out).map(|origin| {
+                let length = origin.key().map_or(0, <[u8]>::len);
+                [origin.number() as usize, length, 0]
+            }),
         };
         answer.map_err(numbers)
     }

@@ -171,7 +171,7 @@ const TYPE: &[u8] = b"image/tiff";
 const BASE: &[u8] = b"http://example.com/slide.opc";
 
 /// Every call on a package but start.
-pub const CALLS: [(&str, Call); 24] = [
+pub const CALLS: [(&str, Call); 26] = [
     ("put item", |p, _| p.put_item(b"/b", &[7; 100])),
     ("put item, derivable", |p, _| p.put_item(b"/a/b", b"")),
     ("drop item", |p, _| p.drop_item(b"/a")),
@@ -195,6 +195,10 @@ pub const CALLS: [(&str, Call); 24] = [
     ("put Override", |p, _| p.put_override(b"/a", TYPE)),
     ("drop Override", |p, _| p.drop_override(b"/a")),
     ("media type", |p, out| p.media_type(b"/a", out).map(drop)),
+    ("type origin", |p, out| p.type_origin(b"/a", out).map(drop)),
+    ("type origin, not held", |p, out| {
+        p.type_origin(b"/b.a", out).map(drop)
+    }),
     ("put relationship", |p, _| {
         p.put_relationship(b"/", b"b", b"a:b", Mode::Internal, b"a")
     }),

@@ -1,4 +1,5 @@
 mod cuts;
+mod origins;
 mod types;
 
 use super::types::Typed;

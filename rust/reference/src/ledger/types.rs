@@ -31,6 +31,20 @@ impl Typed {
 /// Defaults or Overrides by their folded keys.
 pub(super) type Types = BTreeMap<Vec<u8>, Typed>;
 
+/// The entries that a media type may come from, by their numbers.
+const NEITHER: u64 = 0;
+const DEFAULT: u64 = 1;
+const OVERRIDE: u64 = 2;
+
+/// What `type_origin` answers.
+#[derive(Clone, Copy, Debug, PartialEq, Eq)]
+pub struct Origin {
+    /// 2 for an Override, 1 for a Default, 0 for neither.
+    pub kind: u64,
+    /// The length of the entry's key.
+    pub length: usize,
+}
+
 impl Ledger {
     /// Refuses a Default or an Override beside those held: 10 or 15.
     fn check_typed(&self, held: &Types, max: usize, entry: &Typed) -> Result<(), Refusal> {
@@ -90,11 +104,40 @@ impl Ledger {
         write_out(out, media_type)
     }
 
-    /// The Override of a name, else the Default of its extension.
     pub(super) fn type_of(&self, name: &[u8]) -> Option<&[u8]> {
-        let by_extension = || self.defaults.get(&fold(extension(name)?));
-        let entry = self.overrides.get(&fold(name)).or_else(by_extension)?;
-        Some(&entry.media_type)
+        self.entry_of(name).map(|(_, entry)| &entry.media_type[..])
+    }
+
+    /// The Override of a name, else the Default of its extension, and which of
+    /// them it is.
+    fn entry_of(&self, name: &[u8]) -> Option<(u64, &Typed)> {
+        if let Some(entry) = self.overrides.get(&fold(name)) {
+            return Some((OVERRIDE, entry));
+        }
+        let entry = self.defaults.get(&fold(extension(name)?))?;
+        Some((DEFAULT, entry))
+    }
+
+    /// The extensions of all Defaults, and their types.
+    pub fn defaults(&self) -> impl Iterator<Item = (&[u8], &[u8])> {
+        entries(&self.defaults)
+    }
+
+    /// The names of all Overrides, and their types.
+    pub fn overrides(&self) -> impl Iterator<Item = (&[u8], &[u8])> {
+        entries(&self.overrides)
+    }
+
+    /// Copies the key of the entry that a part's media type comes from, in its
+    /// own spelling. Where there is none, any output suffices.
+    pub fn type_origin(&self, name: &[u8], out: &mut [u8]) -> Result<Origin, Refusal> {
+        self.part(name)?;
+        let (kind, key) = match self.entry_of(name) {
+            Some((kind, entry)) => (kind, &entry.key[..]),
+            None => (NEITHER, &b""[..]),
+        };
+        let length = write_out(out, key)?;
+        Ok(Origin { kind, length })
     }
 
     /// Writes the Media Types stream.
@@ -117,4 +160,10 @@ impl Ledger {
         }
         write_out(out, &xml.end("Types"))
     }
+}
+
+/// The keys and types of all entries.
+fn entries(types: &Types) -> impl Iterator<Item = (&[u8], &[u8])> {
+    let entries = types.values();
+    entries.map(|entry| (&entry.key[..], &entry.media_type[..]))
 }

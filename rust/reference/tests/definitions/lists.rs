@@ -5,12 +5,15 @@ use reference::names::{
 };
 use reference::Refusal;
 
+/// A name or an extension, and the bytes or the media type.
+pub type Entry = (Vec<u8>, Vec<u8>);
+
 #[derive(Default)]
 pub struct Lists {
     pub capacity: usize,
-    pub items: Vec<(Vec<u8>, Vec<u8>)>,
-    pub defaults: Vec<(Vec<u8>, Vec<u8>)>,
-    pub overrides: Vec<(Vec<u8>, Vec<u8>)>,
+    pub items: Vec<Entry>,
+    pub defaults: Vec<Entry>,
+    pub overrides: Vec<Entry>,
 }
 
 fn apart(name: &[u8]) -> ItemName<'_> {
@@ -118,15 +121,30 @@ impl Lists {
         parts
     }
 
-    pub fn media_type(&self, name: &[u8]) -> Result<Vec<u8>, Refusal> {
+    /// The entry that a part's type comes from: 2 and an Override, 1 and a
+    /// Default, or 0 and none.
+    fn entry(&self, name: &[u8]) -> Result<(u64, Option<&Entry>), Refusal> {
         self.part(name)?;
-        let find = |list: &[(Vec<u8>, Vec<u8>)], key: &[u8]| {
-            let found = list.iter().find(|(held, _)| is_equivalent(held, key));
-            found.map(|(_, media_type)| media_type.clone())
-        };
-        let by_extension = || find(&self.defaults, extension(name)?);
-        let found = find(&self.overrides, name).or_else(by_extension);
-        found.ok_or(Refusal::NoMediaType)
+        let named = |held: &&Entry| is_equivalent(&held.0, name);
+        if let Some(held) = self.overrides.iter().find(named) {
+            return Ok((2, Some(held)));
+        }
+        let extended = |held: &&Entry| extension(name).is_some_and(|e| is_equivalent(&held.0, e));
+        let held = self.defaults.iter().find(extended);
+        Ok((u64::from(held.is_some()), held))
+    }
+
+    pub fn media_type(&self, name: &[u8]) -> Result<Vec<u8>, Refusal> {
+        let (_, held) = self.entry(name)?;
+        let media_type = held.map(|(_, media_type)| media_type.clone());
+        media_type.ok_or(Refusal::NoMediaType)
+    }
+
+    /// Which entry it is, and its key.
+    pub fn type_origin(&self, name: &[u8]) -> Result<(u64, Vec<u8>), Refusal> {
+        let (kind, held) = self.entry(name)?;
+        let key = held.map(|(key, _)| key.clone());
+        Ok((kind, key.unwrap_or_default()))
     }
 
     pub fn put_default(&mut self, extension: &[u8], media_type: &[u8]) -> Result<(), Refusal> {

@@ -6,8 +6,8 @@
 
 mod lists;
 
-use lists::Lists;
-use reference::ledger::{Ledger, Totals};
+use lists::{Entry, Lists};
+use reference::ledger::{Ledger, Origin, Totals};
 use reference::names::is_equivalent;
 use reference::Refusal;
 use std::collections::BTreeSet;
@@ -51,7 +51,8 @@ const EXTENSIONS: &[&str] = &["x", "X", "y"];
 const COUNTS: &[u64] = &[0, 1, 1, 2, 2, 3, 3, 4, 5, 10, 11, 12, 257, u64::MAX];
 const MANY: &[u64] = &[100, 101, 240, 250, 255, 256];
 
-/// The numbers that cuts and joins met, 0 if they were accepted.
+/// The numbers that cuts and joins met, 0 if they were accepted; the entries
+/// that types came from, and the numbers where that was refused.
 type Seen = BTreeSet<(&'static str, u64)>;
 
 fn number<T>(answer: Result<T, Refusal>) -> u64 {
@@ -109,7 +110,7 @@ fn call(random: &mut Random, ledger: &mut Ledger, lists: &mut Lists, seen: &mut 
         _ => cut_or_join(random, ledger, lists, part, seen),
     }
     if random.below(4) == 0 {
-        let held = |list: &mut Vec<(Vec<u8>, Vec<u8>)>, key: &[u8]| {
+        let held = |list: &mut Vec<Entry>, key: &[u8]| {
             let before = list.len();
             list.retain(|(held, _)| !is_equivalent(held, key));
             if list.len() < before {
@@ -124,13 +125,47 @@ fn call(random: &mut Random, ledger: &mut Ledger, lists: &mut Lists, seen: &mut 
     }
 }
 
-fn owned<'a>(items: impl Iterator<Item = (&'a [u8], &'a [u8])>) -> Vec<(Vec<u8>, Vec<u8>)> {
+fn owned<'a>(items: impl Iterator<Item = (&'a [u8], &'a [u8])>) -> Vec<Entry> {
     let items = items.map(|(name, bytes)| (name.to_vec(), bytes.to_vec()));
     items.collect()
 }
 
+/// Asks both sides where a part's type comes from, with any output.
+fn compare_origin(
+    random: &mut Random,
+    ledger: &Ledger,
+    lists: &Lists,
+    name: &[u8],
+    seen: &mut Seen,
+) {
+    let mut out = [b'.'; 8];
+    let lent = random.below(out.len());
+    let origin = ledger.type_origin(name, &mut out[..lent]);
+    let expected = lists.type_origin(name);
+    let written = match expected {
+        Ok((kind, key)) if key.len() <= lent => {
+            let length = key.len();
+            assert_eq!(origin, Ok(Origin { kind, length }));
+            seen.insert(("origin", kind));
+            key
+        }
+        Ok((_, key)) => {
+            assert_eq!(origin, Err(Refusal::OutputTooShort(key.len())));
+            seen.insert(("no origin", 3));
+            Vec::new()
+        }
+        Err(refusal) => {
+            assert_eq!(origin, Err(refusal));
+            seen.insert(("no origin", refusal.number()));
+            Vec::new()
+        }
+    };
+    let kept = out[written.len()..].iter().all(|&byte| byte == b'.');
+    assert!(out.starts_with(&written) && kept);
+}
+
 /// Asks both sides for all that they hold.
-fn compare(random: &mut Random, ledger: &Ledger, lists: &Lists) {
+fn compare(random: &mut Random, ledger: &Ledger, lists: &Lists, seen: &mut Seen) {
     let parts = lists.parts();
     let totals = Totals {
         items: lists.items.len() as u64,
@@ -161,6 +196,7 @@ fn compare(random: &mut Random, ledger: &Ledger, lists: &Lists) {
             length.map(|length| out[..length].to_vec()),
             lists.media_type(name)
         );
+        compare_origin(random, ledger, lists, name, seen);
     }
     // the same entries, spelled alike
     let (mut items, mut expected) = (owned(ledger.items()), lists.items.clone());
@@ -188,7 +224,7 @@ fn random_lists_of_calls() {
         };
         for _ in 0..60 {
             call(&mut random, &mut ledger, &mut lists, &mut seen);
-            compare(&mut random, &ledger, &lists);
+            compare(&mut random, &ledger, &lists, &mut seen);
             parts += ledger.totals().parts;
         }
     }
@@ -196,5 +232,8 @@ fn random_lists_of_calls() {
     assert!(parts > 60_000);
     let cuts = [0, 13, 15, 17, 18].map(|number| ("cut", number));
     let joins = [0, 13, 18].map(|number| ("join", number));
-    assert!(seen.into_iter().eq(cuts.into_iter().chain(joins)));
+    let origins = [0, 1, 2].map(|kind| ("origin", kind));
+    let none = [3, 13].map(|number| ("no origin", number));
+    let expected = [&cuts[..], &joins, &origins, &none].concat();
+    assert_eq!(seen, expected.into_iter().collect());
 }
