@@ -8,7 +8,7 @@ use native.Mathlib.Omega.{arith}
 use lib.Dec.{eqb}
 use lib.ListN.{take, drop, length, length-map}
 use Rattle.chars.specs.Bytes.{slash, ascii}
-use Rattle.chars.specs.Folding.{fold, lower, equivalent, endsIn}
+use Rattle.chars.specs.Folding.{fold, lower, equivalent, derivable, endsIn}
 use Rattle.chars.specs.Lists.{cut, split, afterLast, same}
 use Rattle.chars.proofs.Foldings.{lower-lower, lower-eqb}
 
@@ -33,6 +33,14 @@ fold-fold (x ∷ s) = rw (lower-lower x, fold-fold s)
 pub equivalent-folded : (a b : List ℕ) → equivalent (fold a) b ≡ equivalent a b
 unfolding equivalent
 equivalent-folded a b = rw (fold-fold a)
+
+pub derivable-folded : (a b : List ℕ) → derivable (fold a) b ≡ derivable a b
+unfolding derivable
+derivable-folded a b = rw (fold-fold a, length-map a lower)
+
+pub derivable-from-folded : (a b : List ℕ) → derivable a (fold b) ≡ derivable a b
+unfolding derivable
+derivable-from-folded a b = rw (fold-fold b, length-map b lower)
 
 cut-fold : (q : Bool) (x : ℕ) (l : List (List ℕ)) → cut q (lower x) (map fold l) ≡ map fold (cut q x l)
 cut-fold true x l = refl

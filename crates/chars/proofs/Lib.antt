@@ -16,3 +16,5 @@ pub mod LastBytes
 pub mod UnitEnds
 pub mod Foldings
 pub mod FoldedTexts
+pub mod CommonStarts
+pub mod FoldedNames

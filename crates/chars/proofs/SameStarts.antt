@@ -43,23 +43,23 @@ all-eight true true true true true true false w = refl
 all-eight true true true true true true true true = refl
 all-eight true true true true true true true false = refl
 
--- the tests of eight bytes of two texts
-module _ (f : ℕ → ℕ) (a b : List ℕ) (i : ℕ) (h : i + 8 ≤ length a) (g : i + 8 ≤ length b) where
+-- the tests of eight bytes of two texts, each read by its own function
+module _ (f g : ℕ → ℕ) (a b : List ℕ) (i : ℕ) (h : i + 8 ≤ length a) (k : i + 8 ≤ length b) where
   pub same-eight : (t0 t1 t2 t3 t4 t5 t6 t7 : Bool)
-      → t0 ≡ eqb (f (getD a i 0)) (f (getD b i 0))
-      → t1 ≡ eqb (f (getD a (i + 1) 0)) (f (getD b (i + 1) 0))
-      → t2 ≡ eqb (f (getD a (i + 2) 0)) (f (getD b (i + 2) 0))
-      → t3 ≡ eqb (f (getD a (i + 3) 0)) (f (getD b (i + 3) 0))
-      → t4 ≡ eqb (f (getD a (i + 4) 0)) (f (getD b (i + 4) 0))
-      → t5 ≡ eqb (f (getD a (i + 5) 0)) (f (getD b (i + 5) 0))
-      → t6 ≡ eqb (f (getD a (i + 6) 0)) (f (getD b (i + 6) 0))
-      → t7 ≡ eqb (f (getD a (i + 7) 0)) (f (getD b (i + 7) 0))
-      → (((((((t0 && t1) && t2) && t3) && t4) && t5) && t6) && t7) ≡ same (map f (take 8 (drop i a))) (map f (take 8 (drop i b)))
+      → t0 ≡ eqb (f (getD a i 0)) (g (getD b i 0))
+      → t1 ≡ eqb (f (getD a (i + 1) 0)) (g (getD b (i + 1) 0))
+      → t2 ≡ eqb (f (getD a (i + 2) 0)) (g (getD b (i + 2) 0))
+      → t3 ≡ eqb (f (getD a (i + 3) 0)) (g (getD b (i + 3) 0))
+      → t4 ≡ eqb (f (getD a (i + 4) 0)) (g (getD b (i + 4) 0))
+      → t5 ≡ eqb (f (getD a (i + 5) 0)) (g (getD b (i + 5) 0))
+      → t6 ≡ eqb (f (getD a (i + 6) 0)) (g (getD b (i + 6) 0))
+      → t7 ≡ eqb (f (getD a (i + 7) 0)) (g (getD b (i + 7) 0))
+      → (((((((t0 && t1) && t2) && t3) && t4) && t5) && t6) && t7) ≡ same (map f (take 8 (drop i a))) (map g (take 8 (drop i b)))
   unfolding same
   same-eight t0 t1 t2 t3 t4 t5 t6 t7 e0 e1 e2 e3 e4 e5 e6 e7 =
-      all-eight t0 t1 t2 t3 t4 t5 t6 t7 ∙ rw (take-eight a i h, take-eight b i g, e0, e1, e2, e3, e4, e5, e6, e7)
+      all-eight t0 t1 t2 t3 t4 t5 t6 t7 ∙ rw (take-eight a i h, take-eight b i k, e0, e1, e2, e3, e4, e5, e6, e7)
 
-map-plain : (l : List ℕ) → map (inCase false) l ≡ l
+pub map-plain : (l : List ℕ) → map (inCase false) l ≡ l
 map-plain [] = refl
 map-plain (x ∷ l) = ap (λ (t : List ℕ). x ∷ t) (map-plain l)
 

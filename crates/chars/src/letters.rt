@@ -19,3 +19,10 @@ pub fn is_same_letter(x: u8, y: u8) -> bool
 {
     to_lower(x) == to_lower(y)
 }
+
+// Whether x, folded, is y.
+pub(crate) fn folds_to_byte(x: u8, y: u8) -> bool
+    ensures { λ r. ⌜ r ≡ eqb (lower x) y ⌝ }
+{
+    to_lower(x) == y
+}

@@ -1,4 +1,5 @@
 // Bytes and characters: folded, compared, searched.
+pub mod folded;
 pub mod folding;
 pub mod letters;
 pub mod search;

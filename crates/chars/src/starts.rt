@@ -8,7 +8,7 @@ ghost use Prim.Native.Nat.{_+_, _≤_};
 ghost use lib.ListN.{length, take};
 ghost use Rattle.chars.specs.Comparing.{inCase, sameEight};
 
-fn is_same_eight(a: &[u8], b: &[u8], i: usize) -> bool
+pub(crate) fn is_same_eight(a: &[u8], b: &[u8], i: usize) -> bool
     requires { ⌜ (i + 8 ≤ length (now a)) × (i + 8 ≤ length (now b)) ⌝ }
     ensures { λ r. ⌜ r ≡ sameEight false (now (a .entry)) (now (b .entry)) i ⌝ }
 {

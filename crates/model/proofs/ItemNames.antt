@@ -1,6 +1,6 @@
 -- The prefix and the suffix of an item name, by what `itemName` of the crate `names` says.
 -- Assumes nothing.
-use Prim.Native.Nat.{ℕ, _-_, _≤_, _<_}
+use Prim.Native.Nat.{ℕ, _-_, _≤_}
 use mathlib.Core.Path.{_≡_, refl, ap, sym, _∙_}
 use mathlib.Core.Bool.{Bool, true, false, true≢false}
 use native.Mathlib.Omega.{arith}
@@ -18,7 +18,7 @@ use Rattle.names.specs.declared.items.Suffix.the-variants.{Whole, Piece}
 use Rattle.names.specs.declared.items.ItemName.{ItemName}
 use Rattle.names.specs.declared.items.ItemName.the-variants.{Named, Refused}
 use Rattle.model.specs.Sets.{Bytes, Each}
-use Rattle.model.specs.Fields.{prefixIn, suffixIn, prefixOf, suffixOf, whole, itemField}
+use Rattle.model.specs.Fields.{prefixIn, suffixIn, prefixOf, suffixOf, whole, askedField, itemField}
 use Rattle.model.specs.Package.{Item, State, itemKind}
 use Rattle.model.specs.Good.{Good}
 use Rattle.model.proofs.Lists.{each-map}
@@ -117,17 +117,20 @@ refused-number s k h z = go (eqb (afterLast slash s) 0) (eqb (getD (lastSegment 
     go false true e = piece (suffix (lastSegment s)) e
     go false false e = as-named (partName s) (length s) Whole e
 
--- an accepted item name: it splits, and its prefix is an unreserved part name
-pub accepted-prefix : (s : Bytes) → itemField s ≡ 0 → (partName (prefixOf s) ≡ true) × (reserved (prefixOf s) ≡ false)
-unfolding itemField
-accepted-prefix s h =
-    let z = all-none _ h in
-    let p₅ : 0 < 5 = omega arith in
-    (splits (itemName s) refl (z .0), unmet (reserved (prefixOf s)) 5 p₅ (z .1 .0))
+-- a name that splits: its prefix is a part name
+pub asked-prefix : (s : Bytes) → askedField s ≡ 0 → partName (prefixOf s) ≡ true
+asked-prefix s h = splits (itemName s) refl h
   where
     splits : (m : ItemName) → itemName s ≡ m → itemRefusal m ≡ 0 → partName (prefixOf s) ≡ true
     splits (Named n x) e f = ap partName (prefix-named s n x e) ∙ prefix-part s n x e .0
     splits (Refused k) e f = absurd (refused-number s k e f)
+
+-- an accepted item name: its prefix is unreserved too
+pub accepted-prefix : (s : Bytes) → itemField s ≡ 0 → (partName (prefixOf s) ≡ true) × (reserved (prefixOf s) ≡ false)
+unfolding itemField
+accepted-prefix s h =
+    let z = all-none _ h in
+    (asked-prefix s (z .0), unmet (reserved (prefixOf s)) 5 (omega arith) (z .1 .0))
 
 -- the prefixes of held items are part names
 pub prefixes-named : (S : State) → Good S → Each (λ (i : Item). partName (prefixOf (i .name)) ≡ true) (S .items)

@@ -140,3 +140,15 @@ unfolding keyOrder thenBy
 goes-on-less a b h e =
     sym (ap (λ (o : Order). thenBy o (order (a .1) (b .1))) (ap (λ (s : Bytes). order s (b .0)) e ∙ order-refl (b .0)))
     ∙ is-less (keyOrder a b) h
+
+-- the order of keys, by their first texts
+pub text-less : (a c : Key) → order (a .0) (c .0) ≡ Less → before a c ≡ true
+unfolding keyOrder thenBy
+text-less a c e = ap (λ (o : Order). isLess (thenBy o (order (a .1) (c .1)))) e
+
+pub text-greater : (a c : Key) → order (a .0) (c .0) ≡ Greater → before a c ≡ false
+unfolding keyOrder thenBy
+text-greater a c e = ap (λ (o : Order). isLess (thenBy o (order (a .1) (c .1)))) e
+
+pub before-text : (a c : Key) → before a c ≡ true → (order (a .0) (c .0) ≡ Greater → ⊥)
+before-text a c l e = true≢false (sym l ∙ text-greater a c e)

@@ -17,7 +17,7 @@ returns c =
     let at-is-same-letter2 = at-is-same-letter3 .before .before .before in
     let at-is-same-letter = at-is-same-letter2 .before .before .before in
     let at-args = at-is-same-letter .before .before .before .before .before in
-    same-eight lower (at-args .args .a .now) (at-args .args .b .now) (at-args .args .i) (omega arith) (omega arith) _ _ _ _ _ _ _ _
+    same-eight lower lower (at-args .args .a .now) (at-args .args .b .now) (at-args .args .i) (omega arith) (omega arith) _ _ _ _ _ _ _ _
     (at-is-same-letter .is-same-letter .ensures) (at-is-same-letter2 .is-same-letter2 .ensures)
     (at-is-same-letter3 .is-same-letter3 .ensures) (at-is-same-letter4 .is-same-letter4 .ensures)
     (at-is-same-letter5 .is-same-letter5 .ensures) (at-is-same-letter6 .is-same-letter6 .ensures)

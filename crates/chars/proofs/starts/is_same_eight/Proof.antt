@@ -10,7 +10,7 @@ returns : tie.Need-returns
 unfolding sameEight
 returns c =
     let at-args = c .before .before .before .before .before .before .before .before .before .before .before .before .before .before .before .before in
-    same-eight (inCase false) (at-args .args .a .now) (at-args .args .b .now) (at-args .args .i) (omega arith) (omega arith) _ _ _ _ _ _ _ _
+    same-eight (inCase false) (inCase false) (at-args .args .a .now) (at-args .args .b .now) (at-args .args .i) (omega arith) (omega arith) _ _ _ _ _ _ _ _
     refl refl refl refl refl refl refl refl
 
 pub is-same-eight-spec : {M : Type 1} → statement M

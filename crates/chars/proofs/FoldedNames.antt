@@ -1,0 +1,152 @@
+-- A wanted name, folded once: the array that holds it, and eight bytes compared with eight of it.
+-- Assumes nothing.
+use Prim.Native.Nat.{ℕ, zero, suc, _+_, _-_, _≤_, _<_, min}
+use mathlib.Core.Path.{_≡_, ap, sym, _∙_, subst}
+use mathlib.Core.Bool.{Bool, true, false}
+use mathlib.Core.List.{List, [], _∷_, map-append}
+use native.Mathlib.Nat.{sub-zero, zero-sub, suc-sub-suc}
+use native.Mathlib.Numerals.{add-one}
+use native.Mathlib.Omega.{arith, min-cases}
+use lib.Dec.{eqb}
+use lib.ListN.{length, getD, take, drop, set, length-map}
+use lib.Seq.{take-suc-set, take-suc, take-length, take-all, take-nil}
+use borrow.Author.Tests.{eqb-true, eqb-false}
+use Rattle.base.specs.Buffer.{part}
+use Rattle.base.proofs.Bools.{not-passing}
+use Rattle.chars.specs.Lists.{same}
+use Rattle.chars.specs.Folding.{lower, fold, equivalent}
+use Rattle.chars.specs.Comparing.{sameEight}
+use Rattle.chars.specs.FoldedNames.{foldedSize, HoldsFolding, foldedEight, SharedSome, Shared, OrderPast}
+use Rattle.chars.specs.declared.folding.Order.{Order}
+use Rattle.chars.specs.declared.folding.Order.the-variants.{Less, Equal, Greater}
+use Rattle.chars.proofs.Equivalence.{same-eq, same-refl}
+use Rattle.chars.proofs.Foldings.{getD-fold}
+use Rattle.chars.proofs.FoldedTexts.{take-map, drop-map, fold-fold}
+use Rattle.chars.proofs.SameStarts.{map-plain, same-eight-eq}
+use Rattle.chars.proofs.CommonStarts.{common-more, common-next, common-stop, common-end, common-right-all, past-equal, past-shorter, past-longer, past-less, past-greater}
+
+-- THE ARRAY
+-- a byte more
+pub fill-next : (f s : List ℕ) (i x : ℕ) → i < length f → i < length s → x ≡ lower (getD s i 0) →
+    take i f ≡ fold (take i s) → take (i + 1) (set f i x) ≡ fold (take (i + 1) s)
+fill-next f s i x h k ex e = rw (add-one, take-suc-set f i x h, take-suc s i 0 k, map-append lower (take i s) (getD s i 0 ∷ []), e, ex)
+
+pub filled : (f s : List ℕ) (i : ℕ) → length s ≤ foldedSize → i ≤ length s → length s ≤ i → take i f ≡ fold (take i s) → HoldsFolding f s
+filled f s i l m n e =
+    let k : i ≡ length s = omega arith in
+    record { fits = l; is = subst (λ (j : ℕ). take j f ≡ fold (take j s)) k e ∙ ap fold (take-length s) }
+
+-- what is read off it
+drop-take : (i n : ℕ) (l : List ℕ) → take (n - i) (drop i l) ≡ drop i (take n l)
+drop-take zero n l = ap (λ (k : ℕ). take k l) (sub-zero n)
+drop-take (suc i) zero l = ap (λ (k : ℕ). take k (drop (suc i) l)) (zero-sub (suc i))
+drop-take (suc i) (suc n) [] = take-nil (suc n - suc i)
+drop-take (suc i) (suc n) (x ∷ l) = ap (λ (k : ℕ). take k (drop i l)) (suc-sub-suc n i) ∙ drop-take i n l
+
+module _ (f s : List ℕ) (h : HoldsFolding f s) where
+  pub folded-whole : part 0 (length s) f ≡ fold s
+  unfolding part
+  folded-whole = h .is
+
+  -- the rest of the name
+  pub folded-rest : (i : ℕ) → part i (length s - i) f ≡ fold (drop i s)
+  unfolding part
+  folded-rest i = drop-take i (length s) f ∙ ap (drop i) (h .is) ∙ drop-map lower i s
+
+-- what is a folding is folded
+pub folded-is : (x s : List ℕ) → x ≡ fold s → fold x ≡ x
+folded-is x s e = ap fold e ∙ fold-fold s ∙ sym e
+
+-- w is the text of the name, as a slice of the array
+module _ (f s : List ℕ) (h : HoldsFolding f s) (w : List ℕ) (ew : w ≡ part 0 (length s) f) where
+  pub text-is : w ≡ fold s
+  text-is = ew ∙ folded-whole f s h
+
+  pub text-folded : fold w ≡ w
+  text-folded = folded-is w s text-is
+
+  pub text-equivalent : (a : List ℕ) (z : Bool) → z ≡ same (fold a) w → z ≡ equivalent a s
+  unfolding equivalent
+  text-equivalent a z ez = ez ∙ ap (same (fold a)) text-is
+
+part-folded : (q : List ℕ) (at n : ℕ) → fold q ≡ q → fold (part at n q) ≡ part at n q
+unfolding part
+part-folded q at n e = sym (take-map lower n (drop at q)) ∙ ap (take n) (sym (drop-map lower at q)) ∙ ap (λ (l : List ℕ). take n (drop at l)) e
+
+-- EIGHT BYTES
+pub folded-eight-same : (a q : List ℕ) (i : ℕ) → fold q ≡ q → sameEight false a q i ≡ true → true ≡ foldedEight a q i
+unfolding foldedEight part
+folded-eight-same a q i z e =
+    let t = take 8 (drop i q) in
+    let p : take 8 (drop i a) ≡ t = sym (map-plain (take 8 (drop i a))) ∙ same-eight-eq false a q i e ∙ map-plain t in
+    sym (ap (λ (l : List ℕ). same l t) (ap fold p ∙ part-folded q i 8 z) ∙ same-refl t)
+
+folded-eight-eq : (a q : List ℕ) (i : ℕ) → foldedEight a q i ≡ true → take 8 (drop i (fold a)) ≡ take 8 (drop i q)
+unfolding foldedEight
+folded-eight-eq a q i e = ap (take 8) (drop-map lower i a) ∙ take-map lower 8 (drop i a) ∙ same-eq _ _ e
+
+-- WHAT IS SHARED, so far
+pub shared-begin : (a q : List ℕ) (i : ℕ) → i ≤ length a → i ≤ length q → SharedSome a q i i
+shared-begin a q i h k = record { left = h; right = k; is = λ l. l }
+
+-- no list is so long
+pub shared-past : (a q : List ℕ) (i n : ℕ) → n ≡ min (length a) (length q) → n < i → SharedSome a q i n
+shared-past a q i n e l = min-cases (length a) (length q) (SharedSome a q i n) (λ p k. made (omega arith) (omega arith)) (λ p k. made (omega arith) (omega arith))
+  where
+    made : n ≤ length a → n ≤ length q → SharedSome a q i n
+    made h k = record { left = h; right = k; is = λ m. omega (arith, l) }
+
+module _ (a q : List ℕ) (from i : ℕ) (s : SharedSome a q from i) where
+  pub shared-more : (z : Bool) → i + 8 ≤ length a → i + 8 ≤ length q → z ≡ foldedEight a q i → z ≡ true → SharedSome a q from (i + 8)
+  shared-more z h k e t = record {
+    left = h;
+    right = k;
+    is = λ m. common-more (fold a) q i (s .is m) 8 (omega (arith, length-map a lower)) k (folded-eight-eq a q i (sym e ∙ t));
+  }
+
+  module _ (h : i < length a) (k : i < length q) (z : Bool) (ez : z ≡ eqb (lower (getD a i 0)) (getD q i 0)) where
+    inside : i < length (fold a)
+    inside = omega (arith, length-map a lower)
+
+    pub shared-next : z ≡ true → SharedSome a q from (i + 1)
+    shared-next e = record {
+      left = omega arith;
+      right = omega arith;
+      is = λ m. common-next (fold a) q i (s .is m) inside k (getD-fold a i ∙ eqb-true (lower (getD a i 0)) (getD q i 0) (sym ez ∙ e));
+    }
+
+    pub shared-stop : z ≡ false → Shared a q from i
+    shared-stop e = record {
+      is = λ m. common-stop (fold a) q i (s .is m) inside k (λ f. eqb-false (lower (getD a i 0)) (getD q i 0) (sym ez ∙ e) (sym (getD-fold a i) ∙ f));
+    }
+
+  pub shared-end : (n : ℕ) → n ≡ min (length a) (length q) → n ≤ i → Shared a q from i
+  shared-end n e l = record { is = λ m. common-end (fold a) q i (s .is m) n (e ∙ ap (λ (k : ℕ). min k (length q)) (sym (length-map a lower))) l }
+
+-- THE ORDER
+module _ (a q : List ℕ) (c : ℕ) where
+  pub order-equal : length a ≤ c → length q ≤ c → OrderPast a q c Equal
+  order-equal h k = record { is = λ e. past-equal (fold a) q c e (omega (arith, length-map a lower)) k }
+
+  pub order-shorter : length a ≤ c → c < length q → OrderPast a q c Less
+  order-shorter h k = record { is = λ e. past-shorter (fold a) q c e (omega (arith, length-map a lower)) k }
+
+  pub order-longer : c < length a → length q ≤ c → OrderPast a q c Greater
+  order-longer h k = record { is = λ e. past-longer (fold a) q c e (omega (arith, length-map a lower)) k }
+
+  module _ (h : c < length a) (k : c < length q) (x : ℕ) (ex : x ≡ lower (getD a c 0)) where
+    pub order-less : x < getD q c 0 → OrderPast a q c Less
+    order-less l = record { is = λ e. past-less (fold a) q c e (omega (arith, length-map a lower)) k (omega (arith, getD-fold a c)) }
+
+    pub order-greater : getD q c 0 ≤ x → OrderPast a q c Greater
+    order-greater l = record { is = λ e. past-greater (fold a) q c e (omega (arith, length-map a lower)) k (omega (arith, getD-fold a c)) }
+
+-- ALL OF IT
+pub folds-unlike : (a q : List ℕ) → (length a ≡ length q → ⊥) → false ≡ same (fold a) q
+folds-unlike a q n = sym (not-passing (same (fold a) q) (λ e. n (sym (length-map a lower) ∙ ap length (same-eq (fold a) q e))))
+
+pub folds-alike : (a q : List ℕ) (c : ℕ) → length a ≡ length q → Shared a q 0 c → eqb c (length q) ≡ same (fold a) q
+folds-alike a q c l s =
+    ap (λ (n : ℕ). eqb n (length q)) (s .is (omega arith))
+    ∙ common-right-all (fold a) q (omega (arith, length-map a lower))
+    ∙ ap (λ (t : List ℕ). same t q) (take-all (length q) (fold a) (omega (arith, length-map a lower)))

@@ -1,0 +1,135 @@
+// A wanted name, folded once, and held names compared with it.
+use crate::folding::Order;
+use crate::letters::folds_to_byte;
+use crate::letters::to_lower;
+use crate::starts::is_same_eight;
+use base::numbers::smaller;
+ghost use mathlib.Core.Path.{_≡_};
+ghost use Prim.Native.Nat.{_+_, _≤_};
+ghost use lib.ListN.{length};
+ghost use Rattle.base.specs.Buffer.{part};
+ghost use Rattle.chars.specs.Lists.{same};
+ghost use Rattle.chars.specs.Folding.{fold};
+ghost use Rattle.chars.specs.FoldedNames.{foldedSize, HoldsFolding, foldedEight, SharedSome, Shared, OrderPast};
+
+// How many bytes the array has that a wanted name is folded into.
+pub const FOLDED_SIZE: usize = 256;
+
+// Folds a name into an array, from its first byte on.
+pub fn fold_into(f: &mut [u8], s: &[u8])
+    requires { ⌜ (length (now s) ≤ foldedSize) × (length (now f) ≡ foldedSize) ⌝ }
+    ensures { λ _. ⌜ HoldsFolding (now (f .exit)) (now (s .entry)) ⌝ }
+{
+    let mut i = 0;
+    while i < s.len() {
+        f[i] = to_lower(s[i]);
+        i += 1;
+    }
+}
+
+fn text_in(s: &[u8], at: usize, n: usize) -> &[u8]
+    requires { ⌜ at + n ≤ length (now s) ⌝ }
+    ensures { λ r. ⌜ now r ≡ part at n (now (s .entry)) ⌝ }
+{
+    &s[at..at + n]
+}
+
+// The n bytes of the array from `at` on.
+pub fn folded_text(f: &[u8; FOLDED_SIZE], at: usize, n: usize) -> &[u8]
+    requires { ⌜ at + n ≤ foldedSize ⌝ }
+    ensures { λ r. ⌜ now r ≡ part at n (now (f .entry)) ⌝ }
+{
+    text_in(f, at, n)
+}
+
+fn is_folded_eight(a: &[u8], q: &[u8], i: usize) -> bool
+    requires { ⌜ (i + 8 ≤ length (now a)) × (i + 8 ≤ length (now q)) ⌝ }
+    ensures { λ r. ⌜ r ≡ foldedEight (now (a .entry)) (now (q .entry)) i ⌝ }
+{
+    folds_to_byte(a[i], q[i])
+        & folds_to_byte(a[i + 1], q[i + 1])
+        & folds_to_byte(a[i + 2], q[i + 2])
+        & folds_to_byte(a[i + 3], q[i + 3])
+        & folds_to_byte(a[i + 4], q[i + 4])
+        & folds_to_byte(a[i + 5], q[i + 5])
+        & folds_to_byte(a[i + 6], q[i + 6])
+        & folds_to_byte(a[i + 7], q[i + 7])
+}
+
+// Eight bytes of a, folded, are those of q. Mostly they are the same as they stand.
+fn folds_to_eight(a: &[u8], q: &[u8], i: usize) -> bool
+    requires { ⌜ (i + 8 ≤ length (now a)) × (i + 8 ≤ length (now q)) × (fold (now q) ≡ now q) ⌝ }
+    ensures { λ r. ⌜ r ≡ foldedEight (now (a .entry)) (now (q .entry)) i ⌝ }
+{
+    if is_same_eight(a, q, i) {
+        return true;
+    }
+    is_folded_eight(a, q, i)
+}
+
+// So many bytes of a at least, folded, are those of q at its beginning, if the first `from` are.
+fn shared_eights(a: &[u8], q: &[u8], from: usize) -> usize
+    requires { ⌜ fold (now q) ≡ now q ⌝ }
+    ensures { λ r. ⌜ SharedSome (now (a .entry)) (now (q .entry)) from r ⌝ }
+{
+    let n = smaller(a.len(), q.len());
+    if n < from {
+        return n;
+    }
+    let mut i = from;
+    while 8 <= n - i {
+        if folds_to_eight(a, q, i) {
+            i += 8;
+        } else {
+            return i;
+        }
+    }
+    i
+}
+
+// How many bytes of a, folded, are those of q at its beginning, if the first `from` are.
+pub fn shared_start(a: &[u8], q: &[u8], from: usize) -> usize
+    requires { ⌜ fold (now q) ≡ now q ⌝ }
+    ensures { λ r. ⌜ Shared (now (a .entry)) (now (q .entry)) from r ⌝ }
+{
+    let n = smaller(a.len(), q.len());
+    let mut i = shared_eights(a, q, from);
+    while i < n {
+        if folds_to_byte(a[i], q[i]) {
+            i += 1;
+        } else {
+            return i;
+        }
+    }
+    i
+}
+
+// How a, folded, stands to q, where c bytes at their beginning are the same, and no more.
+pub fn order_past(a: &[u8], q: &[u8], c: usize) -> Order
+    ensures { λ r. ⌜ OrderPast (now (a .entry)) (now (q .entry)) c r ⌝ }
+{
+    if a.len() <= c {
+        if q.len() <= c {
+            return Order::Equal;
+        }
+        return Order::Less;
+    }
+    if q.len() <= c {
+        return Order::Greater;
+    }
+    if to_lower(a[c]) < q[c] {
+        return Order::Less;
+    }
+    Order::Greater
+}
+
+// Whether a, folded, is q.
+pub fn folds_to(a: &[u8], q: &[u8]) -> bool
+    requires { ⌜ fold (now q) ≡ now q ⌝ }
+    ensures { λ r. ⌜ r ≡ same (fold (now (a .entry))) (now (q .entry)) ⌝ }
+{
+    if a.len() != q.len() {
+        return false;
+    }
+    shared_start(a, q, 0) == q.len()
+}
