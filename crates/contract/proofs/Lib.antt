@@ -1,4 +1,5 @@
 pub mod RowSearch
+pub mod SoughtKeys
 pub mod RowKeys
 pub mod RowLists
 pub mod RowKinds

@@ -26,10 +26,10 @@ use Rattle.store.specs.Rows.{Row, noRow, makeRow, rowSize, rowAt, rowsOf, inser
 use Rattle.store.specs.Packages.{Sound, Became, Room, Inserted, Removed}
 use Rattle.store.proofs.Headers.{rows-count, row-getD}
 use Rattle.contract.specs.Rows.{defaultTag, overrideTag, setOf, keyIn, rowKey}
-use Rattle.contract.specs.Searches.{Ordered, Has, Bounded}
+use Rattle.contract.specs.Searches.{Ordered, Bounded, Placed}
 use Rattle.contract.specs.Answers.{ofDid}
 use Rattle.contract.specs.declared.answers.Did.the-variants.{Refused}
-use Rattle.contract.specs.Entries.{Sought, rowCount, RowsCounted, SetFull, keyTaken, noRowRoom, rowRefusal, Roomy, Weighed, Entered, Dropped}
+use Rattle.contract.specs.Entries.{Sought, Taken, rowCount, RowsCounted, SetFull, keyTaken, noRowRoom, rowRefusal, Roomy, Weighed, Entered, Dropped}
 
 -- an entry is held where its spot is one of the list
 pub held-spot : {E : Type 0} (key : E → Key) (k : Key) (xs : List E) → held (lookup key k xs) ≡ ltb (spot key k xs) (length xs)
@@ -44,41 +44,46 @@ held-spot {E} key k xs = go (ltb (spot key k xs) (length xs)) refl
     go false e = ap held (lookup-none key k xs (ltb-false (spot key k xs) (length xs) e))
 
 -- FINDING
-module _ (b : List ℕ) (k : Key) (m r : ℕ) (em : m ≡ countOf b) (eb : Bounded b k r) where
-  pub missed : (Ordered b → r < m → sameKey k (rowKey (rowAt b r)) ≡ false) → Sought b k m
-  missed h = record { within = omega arith; is = λ q. at-end q }
+module _ (b : List ℕ) (k : Key) (r : ℕ) (z : Bool) (p : Placed b k r z) where
+  -- the row at the place has the key
+  place-here : Ordered b → z ≡ true → r ≡ spot rowKey k (rowsOf b)
+  place-here q e =
+      let l = p .inside e in
+      let f = p .bounded .is q in
+      let n = rows-count b in
+      let s : sameKey k (rowKey (getD (rowsOf b) (bound rowKey k (rowsOf b)) noRow)) ≡ true =
+      ap (λ (x : Row). sameKey k (rowKey x)) (ap (λ (i : ℕ). getD (rowsOf b) i noRow) (sym f) ∙ row-getD b r l)
+      ∙ same-key-sym (rowKey (rowAt b r)) k (sym (p .has q l) ∙ e) in
+      f ∙ sym (bound-hit rowKey k (rowsOf b) noRow (q .sorted) (omega arith) s)
+
+  -- no row has it
+  place-none : Ordered b → z ≡ false → lookup rowKey k (rowsOf b) ≡ none
+  place-none q e =
+      let f = p .bounded .is q in
+      bound-miss rowKey k (rowsOf b) noRow (q .sorted)
+      (λ l. ap (λ (x : Row). sameKey k (rowKey x)) (ap (λ (i : ℕ). getD (rowsOf b) i noRow) (sym f) ∙ row-getD b r (omega (arith, rows-count b)))
+      ∙ not-passing (sameKey k (rowKey (rowAt b r)))
+      (λ y. true≢false (sym (same-key-sym k (rowKey (rowAt b r)) y) ∙ sym (p .has q (omega (arith, rows-count b))) ∙ e)))
+
+  pub taken-placed : Taken b k z
+  taken-placed = record { is = λ q. go q z refl }
     where
-      at-end : Ordered b → m ≡ spot rowKey k (rowsOf b)
-      at-end q =
-          let e = eb .is q in
-          let n = rows-count b in
-          let B = bound rowKey k (rowsOf b) in
-          let miss : B < length (rowsOf b) → sameKey k (rowKey (getD (rowsOf b) B noRow)) ≡ false =
-          λ l. ap (λ (x : Row). sameKey k (rowKey x)) (ap (λ (i : ℕ). getD (rowsOf b) i noRow) (sym e) ∙ row-getD b r (omega arith)) ∙ h q (omega arith) in
-          let z = sym (held-spot rowKey k (rowsOf b)) ∙ ap held (bound-miss rowKey k (rowsOf b) noRow (q .sorted) miss) in
-          omega (arith, ltb-false (spot rowKey k (rowsOf b)) (length (rowsOf b)) z, first-le (λ (x : Row). sameKey k (rowKey x)) (rowsOf b))
+      go : Ordered b → (y : Bool) → z ≡ y → y ≡ held (lookup rowKey k (rowsOf b))
+      go q true e =
+          let l = p .inside e in
+          sym (held-spot rowKey k (rowsOf b) ∙ lt-ltb (spot rowKey k (rowsOf b)) (length (rowsOf b)) (omega (arith, place-here q e, rows-count b)))
+      go q false e = sym (ap held (place-none q e))
 
-  pub sought-none : m ≤ r → Sought b k m
-  sought-none l = missed (λ _ i. absurd (omega arith))
+  pub sought-here : z ≡ true → Sought b k r
+  sought-here e = record { within = p .bounded .within; is = λ q. place-here q e }
 
-  module _ (z : Bool) (ez : Has b r k z) (l : r < m) where
-    same-is : Sound b → sameKey (rowKey (rowAt b r)) k ≡ z
-    same-is s = sym (ez .is s (omega arith))
-
-    pub sought-other : z ≡ false → Sought b k m
-    sought-other e = missed (λ q i. not-passing (sameKey k (rowKey (rowAt b r))) (λ y. true≢false (sym (same-key-sym k (rowKey (rowAt b r)) y) ∙ same-is (q .sound) ∙ e)))
-
-    pub sought-here : z ≡ true → Sought b k r
-    sought-here e = record { within = eb .within; is = λ q. here q }
-      where
-        here : Ordered b → r ≡ spot rowKey k (rowsOf b)
-        here q =
-            let f = eb .is q in
-            let n = rows-count b in
-            let s : sameKey k (rowKey (getD (rowsOf b) (bound rowKey k (rowsOf b)) noRow)) ≡ true =
-            ap (λ (x : Row). sameKey k (rowKey x)) (ap (λ (i : ℕ). getD (rowsOf b) i noRow) (sym f) ∙ row-getD b r (omega arith))
-            ∙ same-key-sym (rowKey (rowAt b r)) k (same-is (q .sound) ∙ e) in
-            f ∙ sym (bound-hit rowKey k (rowsOf b) noRow (q .sorted) (omega arith) s)
+  pub sought-none : (m : ℕ) → m ≡ countOf b → z ≡ false → Sought b k m
+  sought-none m em e = record {
+    within = omega arith;
+    is = λ q.
+        let y = sym (held-spot rowKey k (rowsOf b)) ∙ ap held (place-none q e) in
+        omega (arith, rows-count b, ltb-false (spot rowKey k (rowsOf b)) (length (rowsOf b)) y, first-le (λ (x : Row). sameKey k (rowKey x)) (rowsOf b));
+  }
 
 -- the row that is found
 module _ (b : List ℕ) (q : Ordered b) (k : Key) (r : ℕ) (er : Sought b k r) where
@@ -104,22 +109,20 @@ room-left room a b c d h i j = go (leb d (room - a - b - c)) refl
     go false e = sym (lt-leb (a + (b + (c + d))) room (omega (arith, leb-false d (room - a - b - c) e)))
 
 -- TAKING OUT
-module _ (b : List ℕ) (k : Key) (r m : ℕ) (er : Sought b k r) (em : m ≡ countOf b) where
-  held-is : Ordered b → held (lookup rowKey k (rowsOf b)) ≡ ltb r m
-  held-is q = held-spot rowKey k (rowsOf b) ∙ ap₂ ltb (sym (er .is q)) (rows-count b ∙ sym em)
-
-  pub drop-missing : m ≤ r → Dropped b k (refused 13) b
-  drop-missing l = record {
+module _ (b : List ℕ) (k : Key) (r : ℕ) (z : Bool) (p : Placed b k r z) where
+  pub drop-missing : z ≡ false → Dropped b k (refused 13) b
+  drop-missing e = record {
     kept = λ _. (refl, refl);
     numbered = numbered 13 (omega arith) (omega arith);
     missing = λ _ _. refl;
-    made = λ q h. absurd (true≢false (sym h ∙ held-is q ∙ le-ltb r m l));
+    made = λ q h. absurd (true≢false (sym h ∙ sym (taken-placed b k r z p .is q) ∙ e));
   }
 
-  removed-is : (q : List ℕ) → r < m → Removed b q r → Ordered b → Became b q (remove rowKey k (rowsOf b))
+  removed-is : (q : List ℕ) → z ≡ true → Removed b q r → Ordered b → Became b q (remove rowKey k (rowsOf b))
   unfolding removeAt
-  removed-is q l x o =
-      let e = er .is o in
+  removed-is q y x o =
+      let l = p .inside y in
+      let e = place-here b k r z p o y in
       let n = rows-count b in
       let j : spot rowKey k (rowsOf b) < length (rowsOf b) = omega arith in
       let s : r + 1 ≡ suc (spot rowKey k (rowsOf b)) = omega arith in
@@ -130,12 +133,12 @@ module _ (b : List ℕ) (k : Key) (r m : ℕ) (er : Sought b k r) (em : m ≡ co
         format = x .format;
       }
 
-  pub drop-done : (q : List ℕ) → r < m → (Sound b → Removed b q r) → Dropped b k done q
-  drop-done q l rm = record {
+  pub drop-done : (q : List ℕ) → z ≡ true → (Sound b → Removed b q r) → Dropped b k done q
+  drop-done q e rm = record {
     kept = λ z. absurd (z refl);
     numbered = zero-numbered;
-    missing = λ o h. absurd (true≢false (sym (held-is o ∙ lt-ltb r m l) ∙ h));
-    made = λ o h. (refl, removed-is q l (rm (o .sound)) o);
+    missing = λ o h. absurd (true≢false (sym e ∙ taken-placed b k r z p .is o ∙ h));
+    made = λ o h. (refl, removed-is q e (rm (o .sound)) o);
   }
 
 -- PUTTING IN. Whether a set is full: not where all rows together are fewer than its limit
@@ -181,31 +184,31 @@ module _ (b : List ℕ) (set limit size : ℕ) (w : Bool) (ew : SetFull b set li
             none-left (λ q. slots true (lt-ltb (capOf b) (usedOf b + size) (omega arith)) q)
 
 -- the refusal of a new row
-module _ (b : List ℕ) (own limit t : ℕ) (f0 f1 f2 f3 : Bytes) (m set r : ℕ) (em : m ≡ countOf b) (es : set ≡ setOf t)
-    (er : Sought b (keyIn set f0 t f1) r) where
+module _ (b : List ℕ) (own limit t : ℕ) (f0 f1 f2 f3 : Bytes) (set : ℕ) (taken : Bool) (es : set ≡ setOf t)
+    (et : Taken b (keyIn set f0 t f1) taken) where
   abbrev X : Row
   X = makeRow t f0 f1 f2 f3
 
   abbrev full : ℕ
   full = when (noRowRoom b (setOf t) limit (rowSize X)) 15
 
-  taken-is : Ordered b → (y : Bool) → ltb r m ≡ y → keyTaken b X ≡ y
+  taken-is : Ordered b → (y : Bool) → taken ≡ y → keyTaken b X ≡ y
   taken-is q y e =
-      ap (λ (n : ℕ). held (lookup rowKey (keyIn n f0 t f1) (rowsOf b))) (sym es) ∙ held-is b (keyIn set f0 t f1) r m er em q ∙ e
+      ap (λ (n : ℕ). held (lookup rowKey (keyIn n f0 t f1) (rowsOf b))) (sym es) ∙ sym (et .is q) ∙ e
 
-  pub weighed-taken : r < m → Weighed b own limit X 10
+  pub weighed-taken : taken ≡ true → Weighed b own limit X 10
   weighed-taken l = record {
     is = λ q.
-        sym (ap (λ (y : Bool). first (when y 10 ∷ own ∷ full ∷ [])) (taken-is q true (lt-ltb r m l))
+        sym (ap (λ (y : Bool). first (when y 10 ∷ own ∷ full ∷ [])) (taken-is q true l)
         ∙ first-met 10 (own ∷ full ∷ []) (λ e. omega arith));
     room = λ z. absurd (omega arith);
     numbered = numbered 10 (omega arith) (omega arith);
   }
 
-  module _ (l : m ≤ r) where
+  module _ (l : taken ≡ false) where
     untaken : Ordered b → rowRefusal b own limit X ≡ first (own ∷ full ∷ [])
     untaken q =
-        ap (λ (y : Bool). first (when y 10 ∷ own ∷ full ∷ [])) (taken-is q false (le-ltb r m l)) ∙ first-unmet 0 (own ∷ full ∷ []) refl
+        ap (λ (y : Bool). first (when y 10 ∷ own ∷ full ∷ [])) (taken-is q false l) ∙ first-unmet 0 (own ∷ full ∷ []) refl
 
     pub weighed-own : (own ≡ 0 → ⊥) → Numbered own → Weighed b own limit X own
     weighed-own z n = record { is = λ q. sym (untaken q ∙ first-met own (full ∷ []) z); room = λ e. absurd (z e); numbered = n }

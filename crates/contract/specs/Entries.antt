@@ -21,6 +21,10 @@ pub record Sought (b : List ℕ) (k : Key) (r : ℕ) : Type 0 where
   pub within : r ≤ countOf b
   pub is : Ordered b → r ≡ spot rowKey k (rowsOf b)
 
+-- z tells whether some row has the key k
+pub record Taken (b : List ℕ) (k : Key) (z : Bool) : Type 0 where
+  pub is : Ordered b → z ≡ held (lookup rowKey k (rowsOf b))
+
 -- how many of the rows, which stand in the order of their keys, are of the set n: from its least key to that of the next set
 abbrev pub rowCount : ℕ → List Row → ℕ
 rowCount n rows = bound rowKey (keyIn (suc n) [] 0 []) rows - bound rowKey (keyIn n [] 0 []) rows

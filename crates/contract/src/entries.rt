@@ -1,9 +1,10 @@
 // The rows of entries: found by their key, put in, taken out.
 use crate::answers::Did;
-use crate::search::bound;
-use crate::search::has_key;
+use crate::search::SearchKey;
+use crate::search::seek;
 use crate::search::set_of;
 use crate::search::set_start;
+use chars::folded::fold_into;
 use store::SLOT_COUNT;
 use store::header::count;
 use store::header::free;
@@ -13,36 +14,26 @@ ghost use mathlib.Core.Path.{_≡_};
 ghost use Prim.Native.Nat.{_+_, _^_, _≤_, _<_};
 ghost use lib.Dec.{leb};
 ghost use lib.ListN.{length};
+ghost use Rattle.chars.specs.FoldedNames.{foldedSize};
 ghost use Rattle.model.specs.Calls.{Numbered};
 ghost use Rattle.store.specs.Rows.{makeRow};
 ghost use Rattle.store.specs.Packages.{Shape};
 ghost use Rattle.contract.specs.Rows.{setOf, keyIn};
-ghost use Rattle.contract.specs.Searches.{Bounded};
+ghost use Rattle.contract.specs.Searches.{soughtKey, Aimed, Placed};
 ghost use Rattle.contract.specs.Answers.{ofDid};
-ghost use Rattle.contract.specs.Entries.{Sought, RowsCounted, SetFull, Roomy, Weighed, Entered, Dropped};
+ghost use Rattle.contract.specs.Entries.{Sought, Taken, RowsCounted, SetFull, Roomy, Weighed, Entered, Dropped};
 
-// r, where that row has the key; the number of rows if it has not. No row before r and no row behind it has the key.
-fn hit(pkg: &[u8], r: usize, set: usize, p: &[u8], t: usize, id: &[u8]) -> usize
+// The row that has the key that is sought; the number of rows if there is none.
+pub fn locate(pkg: &[u8], w: SearchKey, f: &[u8; 256], id: &[u8]) -> usize
     requires { ⌜ Shape (now pkg) ⌝ }
-    requires { ⌜ Bounded (now pkg) (keyIn set (now p) t (now id)) r ⌝ }
-    ensures { λ x. ⌜ Sought (now (pkg .entry)) (keyIn set (now (p .entry)) t (now (id .entry))) x ⌝ }
+    requires { ⌜ Aimed w (now f) ⌝ }
+    ensures { λ r. ⌜ Sought (now (pkg .entry)) (soughtKey w (now (f .entry)) (now (id .entry))) r ⌝ }
 {
-    let m = count(pkg);
-    if r < m {
-        if has_key(pkg, r, set, p, t, id) {
-            return r;
-        }
+    let place = seek(pkg, w, f, id);
+    if place.held {
+        return place.row;
     }
-    m
-}
-
-// The row that has the key of the set, the text p, the tag t and the id; the number of rows if there is none.
-pub fn locate(pkg: &[u8], set: usize, p: &[u8], t: usize, id: &[u8]) -> usize
-    requires { ⌜ Shape (now pkg) ⌝ }
-    ensures { λ r. ⌜ Sought (now (pkg .entry)) (keyIn set (now (p .entry)) t (now (id .entry))) r ⌝ }
-{
-    let r = bound(pkg, set, p, t, id);
-    hit(pkg, r, set, p, t, id)
+    count(pkg)
 }
 
 // How many rows the set has.
@@ -109,10 +100,10 @@ fn has_row_room(
     has_room(free(pkg), a, b, c, d)
 }
 
-// The refusal of a new row, which would be row r of a set: 10, the number of the call's own test, 15, or 0.
+// The refusal of a new row of a set, whose key is taken or not: 10, the number of the call's own test, 15, or 0.
 fn row_refusal(
     pkg: &[u8],
-    r: usize,
+    taken: bool,
     own: u8,
     set: usize,
     limit: usize,
@@ -123,11 +114,11 @@ fn row_refusal(
     f3: &[u8],
 ) -> u8
     requires { ⌜ Shape (now pkg) × (set ≡ setOf t) ⌝ }
-    requires { ⌜ Bounded (now pkg) (keyIn set (now f0) t (now f1)) r ⌝ }
+    requires { ⌜ Taken (now pkg) (keyIn set (now f0) t (now f1)) taken ⌝ }
     requires { ⌜ Numbered own ⌝ }
     ensures { λ k. ⌜ Weighed (now (pkg .entry)) own limit (makeRow t (now (f0 .entry)) (now (f1 .entry)) (now (f2 .entry)) (now (f3 .entry))) k ⌝ }
 {
-    if hit(pkg, r, set, f0, t, f1) < count(pkg) {
+    if taken {
         return 10;
     }
     if own != 0 {
@@ -139,10 +130,11 @@ fn row_refusal(
     15
 }
 
-// Puts in a row, which becomes row r, unless its key is taken, the call's own test refuses it by the number own, or there is no room for it.
+// Puts in a row at its place r, unless its key is taken, the call's own test refuses it by the number own, or there is no room for it.
 pub fn put_at(
     pkg: &mut [u8],
     r: usize,
+    taken: bool,
     own: u8,
     set: usize,
     limit: usize,
@@ -153,12 +145,12 @@ pub fn put_at(
     f3: &[u8],
 ) -> Did
     requires { ⌜ Shape (now pkg) × (set ≡ setOf t) ⌝ }
-    requires { ⌜ Bounded (now pkg) (keyIn set (now f0) t (now f1)) r ⌝ }
+    requires { ⌜ Placed (now pkg) (keyIn set (now f0) t (now f1)) r taken ⌝ }
     requires { ⌜ Numbered own ⌝ }
     requires { ⌜ (0 < length (now f0)) × (t < 2 ^ 32) ⌝ }
     ensures { λ r. ⌜ Entered (now (pkg .entry)) own limit (makeRow t (now (f0 .entry)) (now (f1 .entry)) (now (f2 .entry)) (now (f3 .entry))) (ofDid r) (now (pkg .exit)) ⌝ }
 {
-    let k = row_refusal(pkg, r, own, set, limit, t, f0, f1, f2, f3);
+    let k = row_refusal(pkg, taken, own, set, limit, t, f0, f1, f2, f3);
     if k != 0 {
         return Did::Refused(k);
     }
@@ -177,24 +169,42 @@ pub fn put_row(
     f2: &[u8],
     f3: &[u8],
 ) -> Did
-    requires { ⌜ Shape (now pkg) ⌝ }
+    requires { ⌜ Shape (now pkg) × (length (now f0) ≤ foldedSize) ⌝ }
     requires { ⌜ Numbered own ⌝ }
     requires { ⌜ (0 < length (now f0)) × (t < 2 ^ 32) ⌝ }
     ensures { λ r. ⌜ Entered (now (pkg .entry)) own limit (makeRow t (now (f0 .entry)) (now (f1 .entry)) (now (f2 .entry)) (now (f3 .entry))) (ofDid r) (now (pkg .exit)) ⌝ }
 {
     let set = set_of(t);
-    let r = bound(pkg, set, f0, t, f1);
-    put_at(pkg, r, own, set, limit, t, f0, f1, f2, f3)
+    let mut f = [0; 256];
+    fold_into(&mut f, f0);
+    let w = SearchKey {
+        set,
+        at: 0,
+        length: f0.len(),
+        tag: t,
+    };
+    let place = seek(pkg, w, &f, f1);
+    let r = place.row;
+    let taken = place.held;
+    put_at(pkg, r, taken, own, set, limit, t, f0, f1, f2, f3)
 }
 
 // Takes out the row of a key.
 pub fn drop_row(pkg: &mut [u8], set: usize, p: &[u8], id: &[u8]) -> Did
-    requires { ⌜ Shape (now pkg) ⌝ }
+    requires { ⌜ Shape (now pkg) × (length (now p) ≤ foldedSize) ⌝ }
     ensures { λ r. ⌜ Dropped (now (pkg .entry)) (keyIn set (now (p .entry)) 0 (now (id .entry))) (ofDid r) (now (pkg .exit)) ⌝ }
 {
-    let r = locate(pkg, set, p, 0, id);
-    if r < count(pkg) {
-        remove(pkg, r);
+    let mut f = [0; 256];
+    fold_into(&mut f, p);
+    let w = SearchKey {
+        set,
+        at: 0,
+        length: p.len(),
+        tag: 0,
+    };
+    let place = seek(pkg, w, &f, id);
+    if place.held {
+        remove(pkg, place.row);
         return Did::Done;
     }
     Did::Refused(13)

@@ -5,10 +5,12 @@ use crate::ITEMS;
 use crate::OVERRIDE_TAG;
 use crate::OVERRIDES;
 use crate::RELATIONSHIPS;
+use base::numbers::smaller;
+use chars::folded::folded_text;
+use chars::folded::order_past;
+use chars::folded::shared_start;
 use chars::folding::Order;
 use chars::folding::compare;
-use chars::folding::compare_folded;
-use chars::folding::is_equivalent;
 use store::header::count;
 use store::rows::field;
 use store::rows::tag;
@@ -16,11 +18,10 @@ ghost use mathlib.Core.Path.{_≡_};
 ghost use Prim.Native.Nat.{_/_, _≤_};
 ghost use mathlib.Core.List.{[], _∷_};
 ghost use Rattle.chars.specs.Folding.{order};
-ghost use Rattle.model.specs.Sets.{isEqual};
 ghost use Rattle.store.specs.Layout.{slotCount, countOf};
 ghost use Rattle.store.specs.Packages.{Shape};
 ghost use Rattle.contract.specs.Rows.{setOf, second, keyIn};
-ghost use Rattle.contract.specs.Searches.{Stands, Has, Bounded, Counted};
+ghost use Rattle.contract.specs.Searches.{soughtKey, Aimed, Stands, Bounded, Placed, Counted};
 
 // The set that a row's tag tells.
 pub fn set_of(t: usize) -> usize
@@ -63,47 +64,65 @@ fn compare_second(set: usize, u: usize, other: &[u8], t: usize, id: &[u8]) -> Or
     Order::Equal
 }
 
-// How the key of row i stands to the key of the set, the text p, the tag t and the id.
-fn stands(pkg: &[u8], i: usize, set: usize, p: &[u8], t: usize, id: &[u8]) -> Order
-    ensures { λ r. ⌜ Stands (now (pkg .entry)) i (keyIn set (now (p .entry)) t (now (id .entry))) r ⌝ }
+// What is sought: an entry of the set, with the text of `length` bytes from `at` on in an array of foldings; of an item also the tag, which tells its
+// number. The id of a relationship goes beside it, as the array does.
+pub struct SearchKey {
+    pub set: usize,
+    pub at: usize,
+    pub length: usize,
+    pub tag: usize,
+}
+
+// How a row stands to what is sought, and how many bytes their texts have in common at the beginning.
+struct Standing {
+    order: Order,
+    common: usize,
+}
+
+// A place among the rows: that of the key, or where it would stand.
+pub struct Place {
+    pub row: usize,
+    pub held: bool,
+}
+
+// How row i stands to what is sought, and how many bytes at the beginning of its text it has in common with it, if they are not fewer than `from`. None in
+// another set.
+fn stands(pkg: &[u8], i: usize, w: SearchKey, f: &[u8; 256], id: &[u8], from: usize) -> Standing
+    requires { ⌜ Aimed w (now f) ⌝ }
+    ensures { λ r. ⌜ Stands (now (pkg .entry)) i (soughtKey w (now (f .entry)) (now (id .entry))) from (r .order) (r .common) ⌝ }
 {
     let u = tag(pkg, i);
     let own = set_of(u);
+    let set = w.set;
     if own < set {
-        return Order::Less;
+        return Standing {
+            order: Order::Less,
+            common: 0,
+        };
     }
     if set < own {
-        return Order::Greater;
+        return Standing {
+            order: Order::Greater,
+            common: 0,
+        };
     }
-    match compare_folded(field(pkg, i, 0), p) {
-        Order::Less => Order::Less,
-        Order::Equal => compare_second(set, u, field(pkg, i, 1), t, id),
-        Order::Greater => Order::Greater,
+    let held = field(pkg, i, 0);
+    let text = folded_text(f, w.at, w.length);
+    let common = shared_start(held, text, from);
+    match order_past(held, text, common) {
+        Order::Less => Standing {
+            order: Order::Less,
+            common,
+        },
+        Order::Equal => Standing {
+            order: compare_second(set, u, field(pkg, i, 1), w.tag, id),
+            common,
+        },
+        Order::Greater => Standing {
+            order: Order::Greater,
+            common,
+        },
     }
-}
-
-fn is_equal(o: Order) -> bool
-    ensures { λ r. ⌜ r ≡ isEqual o ⌝ }
-{
-    match o {
-        Order::Less => false,
-        Order::Equal => true,
-        Order::Greater => false,
-    }
-}
-
-// Whether row i has the key of the set, the text p, the tag t and the id.
-pub fn has_key(pkg: &[u8], i: usize, set: usize, p: &[u8], t: usize, id: &[u8]) -> bool
-    ensures { λ r. ⌜ Has (now (pkg .entry)) i (keyIn set (now (p .entry)) t (now (id .entry))) r ⌝ }
-{
-    let u = tag(pkg, i);
-    if set_of(u) != set {
-        return false;
-    }
-    if !is_equivalent(field(pkg, i, 0), p) {
-        return false;
-    }
-    is_equal(compare_second(set, u, field(pkg, i, 1), t, id))
 }
 
 // The first row of a set or of a later one, by halving: the tags tell.
@@ -132,26 +151,41 @@ pub fn item_count(pkg: &[u8]) -> usize
     set_start(pkg, DEFAULTS)
 }
 
-// The first row whose key is not before the key, by halving: no two rows have one key, so a row that has it ends the search.
-pub fn bound(pkg: &[u8], set: usize, p: &[u8], t: usize, id: &[u8]) -> usize
+// The first row whose key is not before what is sought, by halving: no two rows have one key, so a row that has it ends the search. What the rows on
+// both sides have in common with it, all rows between them have.
+pub fn seek(pkg: &[u8], w: SearchKey, f: &[u8; 256], id: &[u8]) -> Place
     requires { ⌜ countOf (now pkg) ≤ slotCount ⌝ }
-    ensures { λ r. ⌜ Bounded (now (pkg .entry)) (keyIn set (now (p .entry)) t (now (id .entry))) r ⌝ }
+    requires { ⌜ Aimed w (now f) ⌝ }
+    ensures { λ r. ⌜ Placed (now (pkg .entry)) (soughtKey w (now (f .entry)) (now (id .entry))) (r .row) (r .held) ⌝ }
 {
     let mut lo = 0;
     let mut hi = count(pkg);
+    let mut below = 0;
+    let mut above = 0;
     while lo < hi {
         let mid = lo + (hi - lo) / 2;
-        match stands(pkg, mid, set, p, t, id) {
+        let at = stands(pkg, mid, w, f, id, smaller(below, above));
+        let common = at.common;
+        let order = at.order;
+        match order {
             Order::Less => {
                 lo = mid + 1;
+                below = common;
             }
             Order::Equal => {
-                return mid;
+                return Place {
+                    row: mid,
+                    held: true,
+                };
             }
             Order::Greater => {
                 hi = mid;
+                above = common;
             }
         }
     }
-    lo
+    Place {
+        row: lo,
+        held: false,
+    }
 }

@@ -33,7 +33,7 @@ loop-again c =
     let at-tag = at-set-of .before in
     let at-loop = at-tag .before .before in
     halved-right _ _ _ _ _ (at-loop .loop .inv) (omega arith) (omega arith) _
-    (set-below _ _ _ _ _ (at-tag .tag .ensures .1) (at-set-of .set-of .ensures) (c .if1 .taken)) refl
+    (λ q. set-below _ _ _ _ _ (at-tag .tag .ensures .1) (at-set-of .set-of .ensures) (c .if1 .taken) (q .sound)) refl
 
 loop-again-2 : tie.Need-loop-again-2 Inv-loop μ-loop
 loop-again-2 c =
@@ -41,7 +41,7 @@ loop-again-2 c =
     let at-tag = at-set-of .before in
     let at-loop = at-tag .before .before in
     halved-left _ _ _ _ _ (at-loop .loop .inv) (omega arith) (omega arith) _
-    (set-not-below _ _ _ _ _ (at-tag .tag .ensures .1) (at-set-of .set-of .ensures) (c .if1 .left)) refl
+    (λ q. set-not-below _ _ _ _ _ (at-tag .tag .ensures .1) (at-set-of .set-of .ensures) (c .if1 .left) (q .sound)) refl
 
 returns : tie.Need-returns Inv-loop μ-loop
 returns c = halved-end _ _ _ _ (c .before .loop .inv) (c .loop-test .left)
