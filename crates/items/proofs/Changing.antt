@@ -86,6 +86,9 @@ module _ (s : Bytes) (w : Wanted) (ew : w ≡ wanted (itemField s) s) (n t : ℕ
   pub named-is : (n ≡ length (prefixOf s)) × (t ≡ tagOf (suffixOf s)) × (itemField s ≡ 0)
   named-is = wanted-named (itemField s) s w ew n t en
 
+  pub named-few : n ≤ 256
+  named-few = omega (arith, named-is .0, part-name-size (prefixOf s) (accepted-prefix s (named-is .2) .0))
+
   pub named-some : 0 < length (take n s)
   named-some = rw (prefix-take s n (named-is .0)) (omega (arith, part-name-size (prefixOf s) (accepted-prefix s (named-is .2) .0)))
 

@@ -11,6 +11,7 @@ use lib.Seq.{take-at}
 use borrow.Author.Tests.{ltb-true, ltb-false, lt-ltb, le-ltb}
 use Rattle.chars.specs.Bytes.{slash}
 use Rattle.chars.specs.Folding.{fold, equivalent}
+use Rattle.chars.specs.FoldedNames.{common}
 use Rattle.base.proofs.Bools.{or-true, or-false-left, or-false-right}
 use Rattle.model.specs.Sets.{Bytes, before, held, lookup, any}
 use Rattle.model.specs.Places.{bound, place}
@@ -23,13 +24,12 @@ use Rattle.model.proofs.Walks.{first-le}
 use Rattle.model.proofs.Sets.{Absent, absent}
 use Rattle.model.proofs.Places.{bound-place}
 use Rattle.model.proofs.Neighbours.{clashing, disagrees-neighbours}
-use Rattle.store.specs.Layout.{countOf}
 use Rattle.store.specs.Rows.{Row}
 use Rattle.contract.specs.Rows.{tagOf, itemRow, otherRows, rowsFor, keyIn}
 use Rattle.contract.specs.Holds.{Holds}
 use Rattle.contract.specs.Searches.{Bounded, Counted}
 use Rattle.contract.proofs.ItemRows.{item-tag, item-prefix}
-use Rattle.items.specs.Clashes.{tagsDisagree, Grown, common, partedAt, Parted, extends, extendedAt, Extended, opposedAt, Opposed, OpposedBefore, Misfitting}
+use Rattle.items.specs.Clashes.{tagsDisagree, Grown, partedAt, Parted, extends, extendedAt, Extended, opposedAt, Opposed, OpposedBefore, Misfitting}
 use Rattle.items.proofs.Tags.{tags-disagree-is}
 use Rattle.items.proofs.Naming.{prefix-take}
 use Rattle.items.proofs.Locating.{bound-of}
@@ -67,7 +67,7 @@ module _
       m-is = ec .is S h
 
       r-is : r ≡ bound keyOfItem (itemKey s) (S .items)
-      r-is = bound-of b s n t en et r (countOf b) refl eb S h
+      r-is = bound-of b s n t en et r eb S h
 
       -- 12
       opposed-is : (i : ℕ) → i < length (S .items) → opposedAt b i (take n s) t ≡ clashing s (getD (S .items) i noItem)

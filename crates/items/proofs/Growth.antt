@@ -12,38 +12,28 @@ use borrow.Author.Tests.{le-ltb, ltb-true, ltb-false, lt-ltb, eqb-true, not-true
 use Rattle.chars.specs.Bytes.{slash}
 use Rattle.chars.specs.Lists.{same, begins}
 use Rattle.chars.specs.Folding.{lower, fold, equivalent, derivable, order}
+use Rattle.chars.specs.FoldedNames.{common}
 use Rattle.chars.specs.declared.folding.Order.{Order}
 use Rattle.chars.specs.declared.folding.Order.the-variants.{Less, Equal, Greater}
 use Rattle.base.proofs.Bools.{and-right, and-true, not-passing}
 use Rattle.chars.proofs.Orders.{order-equal, order-less}
 use Rattle.chars.proofs.Derivability.{begins-split, begins-append, derivable-longer, derivable-split, derivable-join, derivable-is, derivable-irrefl}
 use Rattle.chars.proofs.FoldedTexts.{take-map}
+use Rattle.chars.proofs.CommonStarts.{common-append}
 use Rattle.names.specs.Names.{partName}
-use Rattle.model.specs.Sets.{Bytes, Key, thenBy, keyOrder, isLess, before, any}
+use Rattle.model.specs.Sets.{Bytes, before, any}
 use Rattle.model.specs.Places.{firstWhere, bound}
 use Rattle.model.specs.Fields.{prefixOf}
 use Rattle.model.specs.Package.{noItem, Item, State, itemKey, keyOfItem, grows}
 use Rattle.model.specs.Good.{Good, Beside}
+use Rattle.model.proofs.KeyOrders.{text-less, text-greater, before-text}
 use Rattle.model.proofs.Lists.{pairs-at, each-at}
 use Rattle.model.proofs.Walks.{first-le, first-lt, first-passes, first-le-passing, failing-lt-first, before-first}
 use Rattle.model.proofs.Places.{not-before-monotone}
 use Rattle.model.proofs.ItemNames.{prefixes-named}
 use Rattle.names.proofs.NameEnds.{part-no-slash}
 use Rattle.model.proofs.Slashes.{begins-between}
-use Rattle.items.specs.Clashes.{common, extends}
-use Rattle.items.proofs.CommonStarts.{common-append}
-
--- the order of keys, by their first texts
-text-less : (a c : Key) → order (a .0) (c .0) ≡ Less → before a c ≡ true
-unfolding keyOrder thenBy
-text-less a c e = ap (λ (o : Order). isLess (thenBy o (order (a .1) (c .1)))) e
-
-text-greater : (a c : Key) → order (a .0) (c .0) ≡ Greater → before a c ≡ false
-unfolding keyOrder thenBy
-text-greater a c e = ap (λ (o : Order). isLess (thenBy o (order (a .1) (c .1)))) e
-
-before-text : (a c : Key) → before a c ≡ true → (order (a .0) (c .0) ≡ Greater → ⊥)
-before-text a c l e = true≢false (sym l ∙ text-greater a c e)
+use Rattle.items.specs.Clashes.{extends}
 
 -- a text and what it is the beginning of
 less-append : (t : List ℕ) (x : ℕ) (r : List ℕ) → order t (t ++ x ∷ r) ≡ Less

@@ -3,7 +3,6 @@ pub mod Naming
 pub mod Locating
 pub mod Tests
 pub mod GrowingRows
-pub mod CommonStarts
 pub mod Growth
 pub mod Clashing
 pub mod Starting

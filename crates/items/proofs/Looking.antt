@@ -13,6 +13,8 @@ use Rattle.model.specs.Sets.{Bytes}
 use Rattle.model.specs.Fields.{first, prefixOf, suffixOf, askedField}
 use Rattle.model.specs.Package.{noItem, State, Item, itemAt}
 use Rattle.model.specs.Calls.{Numbered, Looks, Find, View, refused, askedRefusal, look}
+use Rattle.names.proofs.Lengths.{part-name-size}
+use Rattle.model.proofs.ItemNames.{asked-prefix}
 use Rattle.model.proofs.Numbers.{numbered, zero-numbered, asked-field-numbered}
 use Rattle.store.specs.Layout.{countOf}
 use Rattle.store.specs.Rows.{rowAt, fieldOf}
@@ -59,8 +61,11 @@ view-yes : (S : State) (s : Bytes) (i : Item) (f : Bytes) → askedRefusal S s �
 unfolding look
 view-yes S s i f e z g = rw (e, z, g)
 
-pub asked-is : (s : Bytes) (w : Wanted) → w ≡ wanted (askedField s) s → (n t : ℕ) → w ≡ Named n t → (n ≡ length (prefixOf s)) × (t ≡ tagOf (suffixOf s))
-asked-is s w ew n t en = let z = wanted-named (askedField s) s w ew n t en in (z .0, z .1)
+pub asked-is : (s : Bytes) (w : Wanted) → w ≡ wanted (askedField s) s → (n t : ℕ) → w ≡ Named n t
+    → (n ≤ 256) × (n ≡ length (prefixOf s)) × (t ≡ tagOf (suffixOf s))
+asked-is s w ew n t en =
+    let z = wanted-named (askedField s) s w ew n t en in
+    (omega (arith, z .0, part-name-size (prefixOf s) (asked-prefix s (z .2))), z .0, z .1)
 
 -- EACH WAY OUT
 module _ (p : Bytes) (ok : Open p) (s : Bytes) (w : Wanted) (ew : w ≡ wanted (askedField s) s) where

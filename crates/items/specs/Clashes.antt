@@ -1,13 +1,14 @@
 -- What the tests of a new item beside the held ones find. These are promises of inner functions.
 -- Assumes nothing.
-use Prim.Native.Nat.{ℕ, suc, _-_, _/_, _%_, _≤_}
+use Prim.Native.Nat.{ℕ, _-_, _/_, _%_, _≤_}
 use mathlib.Core.Path.{_≡_}
-use mathlib.Core.Bool.{Bool, false, not, _&&_, _||_, cond}
-use mathlib.Core.List.{List, [], _∷_}
+use mathlib.Core.Bool.{Bool, false, not, _&&_, _||_}
+use mathlib.Core.List.{List}
 use lib.Dec.{ltb, eqb}
 use lib.ListN.{length, getD, take, drop}
 use Rattle.chars.specs.Bytes.{slash}
 use Rattle.chars.specs.Folding.{fold, equivalent}
+use Rattle.chars.specs.FoldedNames.{common}
 use Rattle.model.specs.Sets.{Bytes, held, lookup, any}
 use Rattle.model.specs.Fields.{first}
 use Rattle.model.specs.Package.{State, itemKey, keyOfItem, grows}
@@ -33,12 +34,6 @@ pub record Grown (b : List ℕ) (n : ℕ) (p : Bytes) (z : Bool) : Type 0 where
 -- the walk for it has passed the first i rows
 pub record GrownFrom (b : List ℕ) (n : ℕ) (p : Bytes) (i : ℕ) : Type 0 where
   pub is : Sound b → any (λ (r : Row). grows p (r .f0)) (take n (rowsOf b)) ≡ any (λ (r : Row). grows p (r .f0)) (drop i (take n (rowsOf b)))
-
--- how many elements at the beginning of two lists are the same
-unfoldable pub common : List ℕ → List ℕ → ℕ
-common [] t = 0
-common (x ∷ s) [] = 0
-common (x ∷ s) (y ∷ t) = cond (eqb x y) (suc (common s t)) 0
 
 -- the prefix of row i and p part where p has a slash
 abbrev pub partedAt : List ℕ → ℕ → Bytes → Bool

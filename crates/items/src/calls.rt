@@ -4,6 +4,7 @@ use crate::wanted::Wanted;
 use crate::wanted::asked;
 use crate::wanted::item_row;
 use crate::wanted::strict;
+use chars::folded::fold_into;
 use contract::CAPACITY_LIMIT;
 use contract::ITEM_LIMIT;
 use contract::ITEMS;
@@ -12,8 +13,9 @@ use contract::answers::Did;
 use contract::answers::Found;
 use contract::entries::put_at;
 use contract::gate::opened;
-use contract::search::bound;
+use contract::search::SearchKey;
 use contract::search::item_count;
+use contract::search::seek;
 use store::header::count;
 use store::header::init;
 use store::rows::field;
@@ -47,11 +49,22 @@ pub fn put_item(pkg: &mut [u8], name: &[u8], bytes: &[u8]) -> Did
     match strict(name) {
         Wanted::Refused(k) => Did::Refused(k),
         Wanted::Named(n, t) => {
-            let r = bound(pkg, ITEMS, &name[..n], t, b"");
-            let own = misfit_of(pkg, name, n, t, r, item_count(pkg));
+            let mut f = [0; 256];
+            fold_into(&mut f, &name[..n]);
+            let w = SearchKey {
+                set: ITEMS,
+                at: 0,
+                length: n,
+                tag: t,
+            };
+            let place = seek(pkg, w, &f, b"");
+            let r = place.row;
+            let taken = place.held;
+            let own = misfit_of(pkg, &f, name, n, t, r, item_count(pkg));
             put_at(
                 pkg,
                 r,
+                taken,
                 own,
                 ITEMS,
                 ITEM_LIMIT,

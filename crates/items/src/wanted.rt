@@ -1,19 +1,20 @@
 // The item that a name asks for, and its row.
-use chars::folding::is_equivalent;
+use chars::folded::fold_into;
 use contract::ITEMS;
-use contract::search::bound;
+use contract::search::SearchKey;
+use contract::search::seek;
 use names::items::ItemName;
 use names::items::Suffix;
 use names::items::refusal;
 use names::items::take_apart;
 use names::parts::is_reserved;
 use store::header::count;
-use store::rows::field;
 use store::rows::tag;
 ghost use mathlib.Core.Path.{_≡_};
 ghost use Prim.Native.Nat.{_≤_, _<_};
 ghost use mathlib.Core.Bool.{cond};
 ghost use lib.ListN.{length};
+ghost use Rattle.chars.specs.FoldedNames.{foldedSize};
 ghost use Rattle.model.specs.Fields.{askedField, itemField, prefixOf, suffixOf};
 ghost use Rattle.store.specs.Packages.{Shape};
 ghost use Rattle.contract.specs.Rows.{tagOf, defaultTag};
@@ -69,18 +70,26 @@ pub(crate) fn strict(s: &[u8]) -> Wanted
 
 // The row of the item with the prefix and the tag of s, or the number of rows.
 pub(crate) fn item_row(pkg: &[u8], s: &[u8], n: usize, t: usize) -> usize
-    requires { ⌜ Shape (now pkg) ⌝ }
+    requires { ⌜ Shape (now pkg) × (n ≤ foldedSize) ⌝ }
     requires { ⌜ (n ≡ length (prefixOf (now s))) × (t ≡ tagOf (suffixOf (now s))) ⌝ }
     ensures { λ r. ⌜ Located (now (pkg .entry)) (now (s .entry)) r ⌝ }
 {
+    let mut f = [0; 256];
+    fold_into(&mut f, &s[..n]);
+    let w = SearchKey {
+        set: ITEMS,
+        at: 0,
+        length: n,
+        tag: t,
+    };
+    let place = seek(pkg, w, &f, b"");
     let m = count(pkg);
-    let r = bound(pkg, ITEMS, &s[..n], t, b"");
-    if r < m {
-        if tag(pkg, r) == t {
-            if is_equivalent(field(pkg, r, 0), &s[..n]) {
-                return r;
-            }
-        }
+    let r = place.row;
+    if !place.held {
+        return m;
+    }
+    if tag(pkg, r) == t {
+        return r;
     }
     m
 }

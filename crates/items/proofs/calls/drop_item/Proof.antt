@@ -1,7 +1,7 @@
 use mathlib.Core.Path.{refl}
 use Rattle.model.specs.Calls.{Changes, DropItem}
 use native.Mathlib.Omega.{arith}
-use Rattle.items.proofs.Changing.{named-is, drop-refused, drop-missing, drop-done}
+use Rattle.items.proofs.Changing.{named-is, named-few, drop-refused, drop-missing, drop-done}
 use Rattle.contract.proofs.Opening.{turned-away, let-in}
 use borrow.Author.Needs.{needs}
 use Rattle.items.proofs.calls.drop_item.Statement.{statement}
@@ -16,8 +16,10 @@ item-row-requires c κs =
     let at-strict = at-n .before .before in
     let at-if1 = at-strict .before in
     let opened = at-if1 .before .opened in
-    let named = named-is _ _ (at-strict .strict .ensures) _ _ (at-n .n .given .1) in
-    (let-in _ _ (opened .ensures) (at-if1 .if1 .left) .shape, (named .0, named .1))
+    let named = named-is _ _ (at-strict .strict .ensures) _ _ (at-n .n .given .1) in (
+      (let-in _ _ (opened .ensures) (at-if1 .if1 .left) .shape, named-few _ _ (at-strict .strict .ensures) _ _ (at-n .n .given .1)),
+      (named .0, named .1),
+    )
 
 remove-requires : tie.Need-remove-requires
 remove-requires c κs =

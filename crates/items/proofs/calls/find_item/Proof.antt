@@ -15,7 +15,8 @@ item-row-requires c κs =
     let at-asked = at-n .before .before in
     let at-if1 = at-asked .before in
     let opened = at-if1 .before .opened in
-    (let-in _ _ (opened .ensures) (at-if1 .if1 .left) .shape, asked-is _ _ (at-asked .asked .ensures) _ _ (at-n .n .given .1))
+    let named = asked-is _ _ (at-asked .asked .ensures) _ _ (at-n .n .given .1) in
+    ((let-in _ _ (opened .ensures) (at-if1 .if1 .left) .shape, named .0), (named .1, named .2))
 
 returns-2 : tie.Need-returns-2
 returns-2 c =

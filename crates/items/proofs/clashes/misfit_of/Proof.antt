@@ -13,7 +13,7 @@ returns : tie.Need-returns
 returns c =
     let at-is-opposed = c .before in
     let at-pre = at-is-opposed .before .before .before .before in
-    misfit-12 _ _ _ _ (at-pre .pre .0 .0) (at-pre .pre .0 .1) _ _ (at-pre .pre .1 .0) (at-pre .pre .1 .1) _
+    misfit-12 _ _ _ _ (at-pre .pre .0 .0) (at-pre .pre .0 .1) _ _ (at-pre .pre .1 .1 .0) (at-pre .pre .1 .1 .1) _
     (at-is-opposed .is-opposed .ensures) (c .if1 .taken)
 
 slice-aggregate-is-opposed-before : tie.Need-slice-aggregate-is-opposed-before
@@ -26,7 +26,7 @@ returns-2 c =
     let at-is-opposed-before = c .before in
     let at-is-opposed = at-is-opposed-before .before .before .before in
     let at-pre = at-is-opposed .before .before .before .before in
-    misfit-12-before _ _ _ _ (at-pre .pre .0 .0) (at-pre .pre .0 .1) _ _ (at-pre .pre .1 .0) (at-pre .pre .1 .1) _
+    misfit-12-before _ _ _ _ (at-pre .pre .0 .0) (at-pre .pre .0 .1) _ _ (at-pre .pre .1 .1 .0) (at-pre .pre .1 .1 .1) _
     (at-is-opposed .is-opposed .ensures) _ (at-is-opposed-before .is-opposed-before .ensures) (c .if2 .taken)
 
 slice-aggregate-is-parted : tie.Need-slice-aggregate-is-parted
@@ -52,7 +52,7 @@ returns-3 c =
     let at-if1 = at-is-opposed-before .before .before in
     let at-is-opposed = at-if1 .before in
     let at-pre = at-is-opposed .before .before .before .before in
-    misfit-11 _ _ _ _ (at-pre .pre .0 .0) (at-pre .pre .0 .1) _ _ (at-pre .pre .1 .0) (at-pre .pre .1 .1) _
+    misfit-11 _ _ _ _ (at-pre .pre .0 .0) (at-pre .pre .0 .1) _ _ (at-pre .pre .1 .1 .0) (at-pre .pre .1 .1 .1) _
     (at-is-opposed .is-opposed .ensures) _ (at-is-opposed-before .is-opposed-before .ensures) (at-if1 .if1 .left)
     (at-if2 .if2 .left) _ (at-has-grown .has-grown .ensures) (c .if4 .taken)
 
@@ -64,7 +64,7 @@ returns-4 c =
     let at-if1 = at-is-opposed-before .before .before in
     let at-is-opposed = at-if1 .before in
     let at-pre = at-is-opposed .before .before .before .before in
-    misfit-0 _ _ _ _ (at-pre .pre .0 .0) (at-pre .pre .0 .1) _ _ (at-pre .pre .1 .0) (at-pre .pre .1 .1) _
+    misfit-0 _ _ _ _ (at-pre .pre .0 .0) (at-pre .pre .0 .1) _ _ (at-pre .pre .1 .1 .0) (at-pre .pre .1 .1 .1) _
     (at-is-opposed .is-opposed .ensures) _ (at-is-opposed-before .is-opposed-before .ensures) (at-if1 .if1 .left)
     (at-if2 .if2 .left) _ (at-has-grown .has-grown .ensures) (c .if4 .left)
 
@@ -77,7 +77,7 @@ returns-5 c =
     let at-if1 = at-is-opposed-before .before .before in
     let at-is-opposed = at-if1 .before in
     let at-pre = at-is-opposed .before .before .before .before in
-    misfit-apart _ _ _ _ (at-pre .pre .0 .0) (at-pre .pre .0 .1) _ _ (at-pre .pre .1 .0) (at-pre .pre .1 .1) _
+    misfit-apart _ _ _ _ (at-pre .pre .0 .0) (at-pre .pre .0 .1) _ _ (at-pre .pre .1 .1 .0) (at-pre .pre .1 .1 .1) _
     (at-is-opposed .is-opposed .ensures) _ (at-is-opposed-before .is-opposed-before .ensures) (at-if1 .if1 .left)
     (at-if2 .if2 .left) _ (at-is-parted .is-parted .ensures) _ (at-is-extended .is-extended .ensures) (c .if3 .left)
 
