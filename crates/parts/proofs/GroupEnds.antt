@@ -1,14 +1,14 @@
--- Where a group ends, by halving: at the bound of its prefix with a number that no item has.
+-- Where a group ends: by halving, at the bound of its prefix with a number that no item has; right behind a whole item.
 -- Assumes nothing.
 use Prim.Native.Nat.{ℕ, suc, _+_, _-_, _/_, _≤_, _<_}
 use mathlib.Core.Path.{_≡_, refl, ap, sym, _∙_}
-use mathlib.Core.Bool.{Bool, true, false, not, _||_, true≢false}
+use mathlib.Core.Bool.{Bool, true, false, not, _||_, cond, true≢false}
 use mathlib.Core.List.{List, [], _∷_}
 use native.Mathlib.Omega.{arith}
-use lib.Dec.{ltb}
+use lib.Dec.{ltb, eqb}
 use lib.ListN.{length, getD, drop, length-drop}
 use lib.Seq.{getD-drop}
-use borrow.Author.Tests.{lt-ltb, ltb-true, ltb-false, not-true, not-false}
+use borrow.Author.Tests.{lt-ltb, le-ltb, ltb-true, ltb-false, not-true, not-false}
 use Rattle.chars.specs.Folding.{fold, equivalent, order}
 use Rattle.chars.specs.declared.folding.Order.{Order}
 use Rattle.chars.specs.declared.folding.Order.the-variants.{Less, Greater}
@@ -23,20 +23,22 @@ use Rattle.model.specs.Package.{noItem, Item, State, rank, keyOfItem}
 use Rattle.model.specs.Good.{Beside}
 use Rattle.base.proofs.Bools.{not-passing}
 use Rattle.model.proofs.Lists.{pairs-at}
-use Rattle.model.proofs.Walks.{first-le, first-passes, before-first, first-at, walk-stop, walk-end}
-use Rattle.model.proofs.KeyOrders.{begins-less}
+use Rattle.model.proofs.Walks.{first-le, first-passes, before-first, first-at, walk-step, walk-stop, walk-end}
+use Rattle.model.proofs.KeyOrders.{begins-less, is-equal, key-equal}
+use Rattle.model.proofs.Groups.{alike-same}
 use Rattle.model.proofs.Places.{not-before-monotone}
 use Rattle.model.proofs.FieldSizes.{prefix-few}
 use Rattle.store.specs.Layout.{countOf}
 use Rattle.store.specs.Rows.{rowAt, tagAt, fieldOf}
 use Rattle.store.specs.Packages.{Shape, Sound}
-use Rattle.contract.specs.Rows.{tagOf, keyIn}
+use Rattle.contract.specs.Rows.{tagOf, defaultTag, overrideTag, setOf, second, keyIn, rowKey}
 use Rattle.contract.specs.Holds.{Holds}
-use Rattle.contract.specs.Searches.{Bounded}
-use Rattle.contract.proofs.ItemRows.{items-le, item-tag, item-prefix, item-bound}
-use Rattle.contract.proofs.RowKeys.{tag-small, tag-half}
-use Rattle.parts.specs.Runs.{inGroup, Ending, Ended, EndedBehind}
-use Rattle.parts.proofs.GroupRuns.{ending-more}
+use Rattle.contract.specs.Searches.{Bounded, Placed}
+use Rattle.contract.proofs.ItemRows.{items-le, item-row, item-tag, item-prefix, item-bound, other-tag}
+use Rattle.contract.proofs.RowOrders.{holds-ordered}
+use Rattle.contract.proofs.RowKeys.{tag-small, tag-half, item-row-key}
+use Rattle.parts.specs.Runs.{inGroup, Ending, Ended, EndedBehind, Grouped}
+use Rattle.parts.proofs.GroupRuns.{ending-more, grouped-between}
 
 -- the key of p with a number above all
 abbrev above : Bytes → Key
@@ -127,9 +129,10 @@ tag-whole : (x : Suffix) → tagOf x ≡ 0 → whole x ≡ true
 tag-whole Whole e = refl
 tag-whole (Piece k l) e = absurd (omega arith)
 
-module _ (b : List ℕ) (i n : ℕ) (l : i < n) where
-  alone : (u : ℕ) → (Shape b → i < countOf b → u ≡ tagAt b i) → u ≡ 0 → (S : State) → Holds b S → i + 1 < length (S .items) → inGroup (fieldOf (rowAt b i) 0) (getD (S .items) (i + 1) noItem) ≡ false
-  alone u eu z S h k =
+-- u is the tag of row i
+module _ (b : List ℕ) (i u : ℕ) (eu : Shape b → i < countOf b → u ≡ tagAt b i) (z : u ≡ 0) (S : State) (h : Holds b S) where
+  alone : i + 1 < length (S .items) → inGroup (fieldOf (rowAt b i) 0) (getD (S .items) (i + 1) noItem) ≡ false
+  alone k =
       let m : i < length (S .items) = omega arith in
       let x = getD (S .items) i noItem in
       let y = getD (S .items) (i + 1) noItem in
@@ -139,19 +142,24 @@ module _ (b : List ℕ) (i n : ℕ) (l : i < n) where
       ap (equivalent (prefixOf (y .name))) (item-prefix b S h i m)
       ∙ not-passing (equivalent (prefixOf (y .name)) (prefixOf (x .name))) (λ e. true≢false (sym (equivalent-sym (prefixOf (y .name)) (prefixOf (x .name)) e) ∙ a))
 
+  -- p is its prefix, in any spelling
+  alone-end : (p : Bytes) → fold p ≡ fold (fieldOf (rowAt b i) 0) → i < length (S .items) → i + 1 + lead (inGroup p) (drop (i + 1) (S .items)) ≡ i + 1
+  alone-end p e m = go (ltb (i + 1) (length (S .items))) refl
+    where
+      go : (t : Bool) → ltb (i + 1) (length (S .items)) ≡ t → i + 1 + lead (inGroup p) (drop (i + 1) (S .items)) ≡ i + 1
+      go true k =
+          let n = ltb-true (i + 1) (length (S .items)) k in
+          walk-stop (λ (x : Item). not (inGroup p x)) (S .items) (i + 1) noItem n
+          (ap not (alike-same p (fieldOf (rowAt b i) 0) e (getD (S .items) (i + 1) noItem) ∙ alone n))
+      go false k = walk-end (λ (x : Item). not (inGroup p x)) (S .items) (i + 1) (omega (arith, ltb-false (i + 1) (length (S .items)) k))
+
+module _ (b : List ℕ) (i n : ℕ) (l : i < n) where
   pub ended-alone : (u : ℕ) → (Shape b → i < countOf b → u ≡ tagAt b i) → u ≡ 0 → Ended b (i + 1) n (fieldOf (rowAt b i) 0) (i + 1)
   ended-alone u eu z = record {
     low = omega arith;
     high = λ m y w. y;
-    is = λ S h k. sym (go S h k (ltb (i + 1) (length (S .items))) refl);
+    is = λ S h k. sym (alone-end b i u eu z S h (fieldOf (rowAt b i) 0) refl (omega arith));
   }
-    where
-      go : (S : State) → Holds b S → n ≡ length (S .items) → (t : Bool) → ltb (i + 1) (length (S .items)) ≡ t →
-          i + 1 + lead (inGroup (fieldOf (rowAt b i) 0)) (drop (i + 1) (S .items)) ≡ i + 1
-      go S h k true e =
-          let m = ltb-true (i + 1) (length (S .items)) e in
-          walk-stop (λ (x : Item). not (inGroup (fieldOf (rowAt b i) 0) x)) (S .items) (i + 1) noItem m (ap not (alone u eu z S h m))
-      go S h k false e = walk-end (λ (x : Item). not (inGroup (fieldOf (rowAt b i) 0) x)) (S .items) (i + 1) (omega (arith, ltb-false (i + 1) (length (S .items)) e))
 
   -- f is the prefix in row i
   pub ended-own : (f : Bytes) → (Sound b → i < countOf b → f ≡ fieldOf (rowAt b i) 0) → (r : ℕ) → Ended b (i + 1) n f r → Ended b (i + 1) n (fieldOf (rowAt b i) 0) r
@@ -183,3 +191,47 @@ ended-behind b i n p e w l f ef z ez t r x = record {
       let g : equivalent (fieldOf (rowAt b e) 0) p ≡ true = ap (λ (s : Bytes). equivalent s p) (sym (ef (h .lies .sound) (omega (arith, items-le b S h)))) ∙ sym ez ∙ not-false z t in
       x .is S h k (omega arith) (ap (λ (j : ℕ). equivalent (fieldOf (rowAt b j) 0) p) q ∙ g) ∙ sym (ending-more b i n p e w l f ef z ez t .is S h k);
 }
+
+-- A WHOLE ITEM IS MET: row f has the key of p with the number 0
+rank-whole : (x : Suffix) → rank x ≡ 0 → tagOf x ≡ 0
+rank-whole Whole e = refl
+rank-whole (Piece k l) e = absurd (omega arith)
+
+other-set : (t : ℕ) → defaultTag ≤ t → setOf t ≡ 0 → ⊥
+unfolding setOf
+other-set t l e = go (eqb t defaultTag) (eqb t overrideTag) (rw (le-ltb t defaultTag l) at e)
+  where
+    go : (x y : Bool) → _≡_ {A = ℕ} (cond x 1 (cond y 2 3)) 0 → ⊥
+    go true y f = omega arith
+    go false true f = omega arith
+    go false false f = omega arith
+
+module _ (b p id : Bytes) (f : ℕ) (z : Bool) (x : Placed b (keyIn 0 p 0 id) f z) (t : z ≡ true) where
+  module _ (S : State) (h : Holds b S) where
+    met : (rowKey (rowAt b f) .0 ≡ 0 ∷ fold p) × (rowKey (rowAt b f) .1 ≡ 0 ∷ [])
+    unfolding second
+    met = key-equal (rowKey (rowAt b f)) (keyIn 0 p 0 id) (is-equal _ (sym (x .has (holds-ordered b S h) (x .inside t)) ∙ t))
+
+    -- it is an item's
+    met-item : f < length (S .items)
+    met-item = go (ltb f (length (S .items))) refl
+      where
+        go : (q : Bool) → ltb f (length (S .items)) ≡ q → f < length (S .items)
+        go true e = ltb-true f (length (S .items)) e
+        go false e =
+            let l = other-tag b S h f (ltb-false f (length (S .items)) e) (x .inside t) in
+            absurd (other-set (tagAt b f) l (ap (λ (s : Bytes). getD s 0 0) (met .0)))
+
+    met-end : f + 1 ≡ f + lead (inGroup p) (drop f (S .items))
+    unfolding fieldOf
+    met-end =
+        let y = getD (S .items) f noItem in
+        let k : rowKey (rowAt b f) ≡ (0 ∷ keyOfItem y .0, keyOfItem y .1) = ap rowKey (item-row b S h f met-item) ∙ item-row-key y in
+        let g : fold (prefixOf (y .name)) ≡ fold p = ap (drop 1) (sym (ap (λ (q : Key). q .0) k) ∙ met .0) in
+        let r : rank (suffixOf (y .name)) ≡ 0 = ap (λ (s : Bytes). getD s 0 0) (sym (ap (λ (q : Key). q .1) k) ∙ met .1) in
+        let u : tagAt b f ≡ 0 = item-tag b S h f met-item ∙ rank-whole (suffixOf (y .name)) r in
+        sym (walk-step (λ (i : Item). not (inGroup p i)) (S .items) f noItem met-item (ap not (fold-equivalent (prefixOf (y .name)) p g))
+        ∙ alone-end b f (tagAt b f) (λ _ _. refl) u S h p (sym (ap (drop 1) (met .0))) met-item)
+
+  pub grouped-whole : Shape b → Grouped b p f (f + 1)
+  grouped-whole s = grouped-between b p id f (x .bounded) (f + 1) (omega arith) (omega (arith, x .inside t, s .few)) met-end

@@ -6,18 +6,23 @@ use mathlib.Core.Bool.{Bool, true, false, not, _||_}
 use mathlib.Core.List.{List, [], _∷_}
 use native.Mathlib.Omega.{arith}
 use lib.Dec.{eqb}
-use lib.ListN.{length, getD, drop, length-drop, drop-of-length-le}
+use lib.ListN.{length, getD, drop, length-drop, length-map, drop-of-length-le}
 use lib.Seq.{length-take-le, getD-take, getD-drop}
 use borrow.Author.Tests.{not-true, not-false}
-use Rattle.chars.specs.Folding.{fold, equivalent, order}
+use Rattle.base.specs.Buffer.{part}
+use Rattle.base.proofs.Bools.{not-passing}
+use Rattle.chars.specs.Folding.{lower, fold, equivalent, order}
+use Rattle.chars.specs.FoldedNames.{foldedSize}
 use Rattle.chars.proofs.Equivalence.{equivalent-fold, fold-equivalent}
 use Rattle.model.specs.Sets.{Bytes, before, any, Each, AllPairs, Sorted}
 use Rattle.model.specs.Places.{firstWhere, bound, lead}
 use Rattle.names.specs.Names.{partName}
+use Rattle.names.proofs.Lengths.{name-few}
 use Rattle.model.specs.Fields.{first, prefixOf}
-use Rattle.model.specs.Package.{noItem, Item, State, rank, keyOfItem, completeFrom, isPart, disagrees}
+use Rattle.model.specs.Package.{noItem, Item, State, rank, keyOfItem, group, completeFrom, isPart, disagrees}
 use Rattle.model.specs.Good.{Beside}
-use Rattle.model.proofs.Lists.{pairs-map, pairs-drop, pairs-take, pairs-both, pairs-each}
+use Rattle.model.proofs.Lists.{each-map, pairs-map, pairs-drop, pairs-take, pairs-both, pairs-each, filter-none}
+use Rattle.model.proofs.ItemNames.{prefixes-named}
 use Rattle.model.proofs.Walks.{first-le, walk-step, walk-stop, lead-take}
 use Rattle.model.proofs.KeyOrders.{goes-on-less}
 use Rattle.model.proofs.Keys.{number-less}
@@ -50,6 +55,10 @@ module _ (p : Bytes) (g : List Item) (a : Each (λ (i : Item). inGroup p i ≡ t
       pairs-map (λ (i j : Item). ((inGroup p i ≡ true) × (inGroup p j ≡ true)) × Beside i j) (λ (i j : Item). disagrees (mark i) (mark j) ≡ false) g
       (λ i j e. e .1 .agreeing (fold-equivalent (prefixOf (i .name)) (prefixOf (j .name)) (same-prefix i j (e .0))))
       (pairs-both (λ (i j : Item). (inGroup p i ≡ true) × (inGroup p j ≡ true)) Beside g (pairs-each (λ (i : Item). inGroup p i ≡ true) g a) s)
+
+-- A WANTED NAME FITS the array that it is folded into; q is the test of a part name
+pub name-fits : (p : Bytes) (q : Bool) → q ≡ partName p → not q ≡ false → length p ≤ foldedSize
+name-fits p q e z = omega (arith, name-few p (sym e ∙ not-false q z))
 
 -- WHERE A GROUP ENDS: a walk over its rows
 module _ (b : List ℕ) (i n : ℕ) (p : Bytes) where
@@ -109,28 +118,49 @@ module _ (b : List ℕ) (f t : ℕ) where
 
 -- THE GROUP OF A PREFIX
 module _ (b : List ℕ) (p : Bytes) where
-  module _ (s : Shape b) (n : ℕ) (c : Counted b n) (id : Bytes) (f : ℕ) (e : Bounded b (keyIn 0 p 0 id) f) (t : ℕ) (x : Ended b f n p t) where
+  -- f is where its items begin, t where those that stand side by side from there on end
+  module _ (id : Bytes) (f : ℕ) (e : Bounded b (keyIn 0 p 0 id) f) (t : ℕ) (o : f ≤ t) (few : t ≤ slotCount)
+      (x : (S : State) → Holds b S → t ≡ f + lead (inGroup p) (drop f (S .items))) where
     from-is : (S : State) → Holds b S → f ≡ bound keyOfItem (fold p, 0 ∷ []) (S .items)
     from-is S h = item-bound b S h p 0 id f e
 
     long : (S : State) (h : Holds b S) → t - f ≡ lead (inGroup p) (drop f (S .items))
-    long S h = omega (arith, x .is S h (c .is S h))
+    long S h = omega (arith, x S h)
 
-    pub grouped : Grouped b p f t
-    grouped = record {
-      order = x .low;
-      few = x .high slotCount (omega (arith, e .within, s .few)) (omega (arith, c .low, s .few));
+    pub grouped-between : Grouped b p f t
+    grouped-between = record {
+      order = o;
+      few = few;
       inside = λ S h.
           let a = first-le (λ (i : Item). not (inGroup p i)) (drop f (S .items)) in
           let d = length-drop f (S .items) in
-          let o = first-le (λ (i : Item). not (before (keyOfItem i) (fold p, 0 ∷ []))) (S .items) in
-          omega (arith, x .is S h (c .is S h), from-is S h);
+          let q = first-le (λ (i : Item). not (before (keyOfItem i) (fold p, 0 ∷ []))) (S .items) in
+          omega (arith, x S h, from-is S h);
       is = λ S h. group-run p (S .items) (h .good .items .sorted) ∙ rw (← from-is S h, long S h);
       alike = λ S h. rw (long S h) (lead-take (inGroup p) (drop f (S .items)));
     }
 
+  pub grouped : Shape b → (n : ℕ) → Counted b n → (id : Bytes) (f : ℕ) → Bounded b (keyIn 0 p 0 id) f → (t : ℕ) → Ended b f n p t →
+      Grouped b p f t
+  grouped s n c id f e t x =
+      grouped-between id f e t (x .low) (x .high slotCount (omega (arith, e .within, s .few)) (omega (arith, c .low, s .few)))
+      (λ S h. x .is S h (c .is S h))
+
   pub part-of : (f t : ℕ) → Grouped b p f t → (z : Bool) → Judged b f t z → PartOf b p z
   part-of f t g z j = record { is = λ S h. j .is S h (g .inside S h) p (g .alike S h) ∙ ap isPart (sym (g .is S h)) }
+
+  -- no item has so long a prefix
+  pub part-of-long : 255 < length p → PartOf b p false
+  unfolding group isPart completeFrom any
+  part-of-long l = record { is = λ S h. sym (ap isPart (filter-none (inGroup p) (S .items) (others S h))) }
+    where
+      others : (S : State) → Holds b S → Each (λ (i : Item). inGroup p i ≡ false) (S .items)
+      others S h =
+          each-map (λ (i : Item). partName (prefixOf (i .name)) ≡ true) (λ (i : Item). inGroup p i ≡ false) (S .items)
+          (λ i n. not-passing (inGroup p i) (λ e.
+          let z : length (fold (prefixOf (i .name))) ≡ length (fold p) = ap length (equivalent-fold (prefixOf (i .name)) p e) in
+          omega (arith, length-map (prefixOf (i .name)) lower, length-map p lower, name-few (prefixOf (i .name)) n)))
+          (prefixes-named S (h .good))
 
   -- THE REFUSAL of a part that is asked for; q is the test of its name, y whether the group is a part
   module _ (q : Bool) (eq : q ≡ partName p) where

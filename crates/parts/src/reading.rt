@@ -2,6 +2,7 @@
 use crate::copying::copy_rest;
 use crate::runs::find_group;
 use crate::runs::makes_part;
+use chars::folded::fold_into;
 use contract::gate::opened;
 use names::parts::is_part_name;
 use output::writing::Written;
@@ -68,7 +69,9 @@ pub fn read_part(pkg: &[u8], name: &[u8], offset: u64, out: &mut [u8]) -> Writte
     if !is_part_name(name) {
         return Written::Refused(4);
     }
-    let group = find_group(pkg, name);
+    let mut f = [0; 256];
+    fold_into(&mut f, name);
+    let group = find_group(pkg, &f, name);
     let from = group.from;
     let to = group.to;
     if !makes_part(pkg, from, to) {

@@ -3,6 +3,7 @@ use crate::splitting::split;
 use crate::splitting::suffixes_length;
 use base::moves::copy_in;
 use base::numbers::smaller;
+use chars::folded::fold_into;
 use contract::ITEM_LIMIT;
 use contract::answers::Cut;
 use contract::gate::opened;
@@ -89,7 +90,9 @@ pub fn cut_part(pkg: &mut [u8], name: &[u8], n: u64) -> Cut
     if !is_part_name(name) {
         return Cut::Refused(4);
     }
-    let group = find_group(pkg, name);
+    let mut f = [0; 256];
+    fold_into(&mut f, name);
+    let group = find_group(pkg, &f, name);
     let r = group.from;
     let to = group.to;
     let k = cut_refusal(pkg, r, to, n);

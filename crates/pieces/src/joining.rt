@@ -1,6 +1,7 @@
 // Joining the pieces of a part.
 use crate::rows::absorb;
 use crate::rows::rename;
+use chars::folded::fold_into;
 use contract::answers::Did;
 use contract::gate::opened;
 use names::parts::is_part_name;
@@ -38,7 +39,9 @@ pub fn join_part(pkg: &mut [u8], name: &[u8]) -> Did
     if !is_part_name(name) {
         return Did::Refused(4);
     }
-    let group = find_group(pkg, name);
+    let mut f = [0; 256];
+    fold_into(&mut f, name);
+    let group = find_group(pkg, &f, name);
     let from = group.from;
     let to = group.to;
     if !makes_part(pkg, from, to) {

@@ -1,12 +1,13 @@
 -- The calls on Defaults and Overrides are puts and drops of their sets.
 -- Assumes nothing.
-use Prim.Native.Nat.{_<_}
+use Prim.Native.Nat.{_≤_, _<_}
 use mathlib.Core.Path.{_≡_, refl}
 use mathlib.Core.Bool.{not}
 use mathlib.Core.List.{[], _∷_}
 use native.Mathlib.Omega.{arith}
 use lib.ListN.{length}
 use borrow.Author.Tests.{not-false}
+use Rattle.chars.specs.FoldedNames.{foldedSize}
 use Rattle.names.specs.Names.{partName}
 use Rattle.names.specs.Types.{extension}
 use Rattle.model.specs.Sets.{Bytes}
@@ -17,6 +18,20 @@ use Rattle.contract.specs.Rows.{defaultRows, overrideRows}
 use Rattle.names.proofs.Lengths.{part-name-size, extension-size}
 use Rattle.model.proofs.Refusals.{all-none, unmet}
 use Rattle.contract.proofs.SetCalls.{Putting, Dropping}
+
+-- an accepted text has a byte at least, and fits the array that it is folded into
+abbrev Fitting : Bytes → Type 0
+Fitting s = (0 < length s) × (length s ≤ foldedSize)
+
+pub extension-fits : (s : Bytes) → extensionField s ≡ 0 → Fitting s
+extension-fits s z =
+    let n = extension-size s (not-false (extension s) (unmet (not (extension s)) 7 (omega arith) z)) in
+    (omega (arith, n .0), omega (arith, n .1))
+
+pub part-fits : (s : Bytes) → partField s ≡ 0 → Fitting s
+part-fits s z =
+    let n = part-name-size s (not-false (partName s) (unmet (not (partName s)) 4 (omega arith) z)) in
+    (omega (arith, n .0), omega (arith, n .1))
 
 module _ (s v : Bytes) where
   abbrev pub asDefault : Default
@@ -33,16 +48,13 @@ module _ (s v : Bytes) where
   unfolding putOverrideRefusal
   putting-override = record { refusal = λ S. refl; made = λ S. refl }
 
-  -- the text of accepted fields has a byte at least
-  pub default-some : defaultFields s v ≡ 0 → 0 < length s
+  pub default-fits : defaultFields s v ≡ 0 → Fitting s
   unfolding defaultFields
-  default-some z =
-      omega (arith, extension-size s (not-false (extension s) (unmet (not (extension s)) 7 (omega arith) (all-none _ z .0))) .0)
+  default-fits z = extension-fits s (all-none _ z .0)
 
-  pub override-some : overrideFields s v ≡ 0 → 0 < length s
+  pub override-fits : overrideFields s v ≡ 0 → Fitting s
   unfolding overrideFields
-  override-some z =
-      omega (arith, part-name-size s (not-false (partName s) (unmet (not (partName s)) 4 (omega arith) (all-none _ z .0))) .0)
+  override-fits z = part-fits s (all-none _ z .0)
 
 module _ (s : Bytes) where
   pub dropping-default : Dropping defaultRows (DropDefault s) (extensionField s ∷ []) (nameKey s)

@@ -1,17 +1,16 @@
 -- The entry that gives a name its media type, by the rows of the Overrides and the Defaults; each way out of the media type call.
 -- Assumes nothing.
-use Prim.Native.Nat.{ℕ, _+_, _-_, _≤_, _<_}
+use Prim.Native.Nat.{ℕ, _+_, _≤_, _<_}
 use mathlib.Core.Path.{_≡_, refl, ap, sym, _∙_, subst}
-use mathlib.Core.Bool.{Bool, true, false, cond}
+use mathlib.Core.Bool.{Bool, true, false, cond, true≢false}
 use mathlib.Core.List.{List, [], _∷_}
 use mathlib.Core.Option.{Option, none, some, Option·none-ne-some, Option·some-injective}
 use native.Mathlib.Omega.{arith}
 use lib.Dec.{eqb}
-use lib.ListN.{length, take, drop, length-drop}
+use lib.ListN.{length, drop, length-drop}
 use borrow.Author.Tests.{eq-eqb, ne-eqb}
 use Rattle.chars.specs.Bytes.{dot, slash}
 use Rattle.chars.specs.Lists.{afterLast}
-use Rattle.base.proofs.Lists.{take-rest}
 use Rattle.chars.proofs.Searches.{last-le}
 use Rattle.output.specs.Answers.{Answer, answer, ofWritten, written, Text, Refused}
 use Rattle.output.specs.declared.writing.Written.the-variants as told
@@ -38,7 +37,9 @@ use Rattle.contract.proofs.RowKinds.{override-rows, default-rows}
 use Rattle.contract.proofs.SetStates.{found-row}
 use Rattle.parts.specs.Runs.{PartRefused}
 use Rattle.parts.proofs.TextAnswers.{text-refused, text-answered}
-use Rattle.types.specs.TypeRows.{originRow, Typed}
+use Rattle.types.specs.TypeRows.{originRow, Typed, TypeFound}
+use Rattle.types.specs.declared.media.TypeRow.{TypeRow}
+use Rattle.types.specs.declared.media.TypeRow.the-variants as typed
 
 -- THE ROW of the entry that gives the type
 override-origin : (o : Option Override) (d : Option Default) (y : Row) → rowFor overrideRow o ≡ some y → originRow (originIn o d) ≡ some y
@@ -82,13 +83,16 @@ module _ (b : List ℕ) (S : State) (h : Holds b S) (s : Bytes) where
   unfolding second
   default-row = found-row defaultRows default-rows b S h (nameKey s)
 
-pub extension-le : (s : Bytes) → extensionAt s ≤ length s
+extension-le : (s : Bytes) → extensionAt s ≤ length s
 unfolding extensionAt
 extension-le s = go (eqb (afterLast dot (lastSegment s)) 0)
   where
     go : (t : Bool) → cond t 0 (afterLast slash s + afterLast dot (lastSegment s)) ≤ length s
     go true = omega arith
     go false = let e = length-drop (afterLast slash s) s in omega (arith, last-le slash s, last-le dot (lastSegment s))
+
+pub extension-inside : (s : Bytes) (i : ℕ) → i ≡ extensionAt s → i ≤ length s
+extension-inside s i e = omega (arith, extension-le s)
 
 -- EACH WAY OUT OF THE SEARCH; r is the row of the Override
 module _ (b : List ℕ) (s : Bytes) (r m : ℕ) (er : Sought b (keyIn 2 s 0 []) r) (em : m ≡ countOf b) where
@@ -113,13 +117,37 @@ module _ (b : List ℕ) (s : Bytes) (r m : ℕ) (er : Sought b (keyIn 2 s 0 []) 
     pub typed-bare : i ≡ 0 → Typed b s m
     typed-bare z = record { found = λ S h k. absurd (omega arith); missing = λ S h k. origin-is S h ∙ rw (eq-eqb i 0 z) }
 
-    pub typed-default : (i ≡ 0 → ⊥) → (j : ℕ) → Sought b (keyIn 1 (take (length s - i) (drop i s)) 0 []) j → Typed b s j
-    typed-default z j ej =
-        let w : Sought b (keyIn 1 (drop i s) 0 []) j = subst (λ (e : Bytes). Sought b (keyIn 1 e 0 []) j) (take-rest s i) ej in
-        record {
-          found = λ S h k. origin-is S h ∙ rw (ne-eqb i 0 z) (sym (default-row b S h (drop i s)) ∙ row-here b (holds-ordered b S h) (keyIn 1 (drop i s) 0 []) j w k);
-          missing = λ S h k. origin-is S h ∙ rw (ne-eqb i 0 z) (sym (default-row b S h (drop i s)) ∙ row-none b (holds-ordered b S h) (keyIn 1 (drop i s) 0 []) j w k);
-        }
+    pub typed-default : (i ≡ 0 → ⊥) → (j : ℕ) → Sought b (keyIn 1 (drop i s) 0 []) j → Typed b s j
+    typed-default z j ej = record {
+      found = λ S h k.
+          origin-is S h
+          ∙ rw (ne-eqb i 0 z) (sym (default-row b S h (drop i s)) ∙ row-here b (holds-ordered b S h) (keyIn 1 (drop i s) 0 []) j ej k);
+      missing = λ S h k.
+          origin-is S h
+          ∙ rw (ne-eqb i 0 z) (sym (default-row b S h (drop i s)) ∙ row-none b (holds-ordered b S h) (keyIn 1 (drop i s) 0 []) j ej k);
+    }
+
+-- THE ROW OF A PART'S TYPE, or the refusal
+abbrev isRow : TypeRow → Bool
+isRow (typed.At r) = true
+isRow (typed.Refused k) = false
+
+abbrev numberIn : TypeRow → ℕ
+numberIn (typed.At r) = r
+numberIn (typed.Refused k) = k
+
+module _ (b : List ℕ) (name : Bytes) where
+  pub type-not-found : (k : ℕ) → (k ≡ 0 → ⊥) → PartRefused b name k → TypeFound b name (typed.Refused k)
+  type-not-found k z e = record {
+    stopped = λ j y. subst (λ (n : ℕ). (n ≡ 0 → ⊥) × PartRefused b name n) (ap numberIn y) (z, e);
+    found = λ r y. absurd (true≢false (sym (ap isRow y)));
+  }
+
+  pub type-found : PartRefused b name 0 → (r : ℕ) → Typed b name r → TypeFound b name (typed.At r)
+  type-found e r t = record {
+    stopped = λ k y. absurd (true≢false (ap isRow y));
+    found = λ j y. (e, subst (Typed b name) (ap numberIn y) t);
+  }
 
 -- EACH WAY OUT OF THE CALL; k is the refusal of the part
 module _ (b : List ℕ) (o : Open b) (name out : Bytes) (k : ℕ) (ek : PartRefused b name k) where

@@ -13,6 +13,9 @@ use Rattle.store.specs.Layout.{countOf}
 use Rattle.store.specs.Rows.{Row, rowAt}
 use Rattle.contract.specs.Rows.{defaultRow, overrideRow}
 use Rattle.contract.specs.Holds.{Holds}
+use Rattle.parts.specs.Runs.{PartRefused}
+use Rattle.types.specs.declared.media.TypeRow.{TypeRow}
+use Rattle.types.specs.declared.media.TypeRow.the-variants.{At, Refused}
 
 -- the row of an entry
 abbrev pub originRow : Origin → Option Row
@@ -24,6 +27,11 @@ originRow Neither = none
 pub record Typed (b : List ℕ) (name : Bytes) (r : ℕ) : Type 0 where
   pub found : (S : State) → Holds b S → r < countOf b → originRow (originOf name S) ≡ some (rowAt b r)
   pub missing : (S : State) → Holds b S → countOf b ≤ r → originRow (originOf name S) ≡ none
+
+-- of a part the row is found; a name that is none is refused as one
+pub record TypeFound (b : List ℕ) (name : Bytes) (a : TypeRow) : Type 0 where
+  pub stopped : (k : ℕ) → a ≡ Refused k → (k ≡ 0 → ⊥) × PartRefused b name k
+  pub found : (r : ℕ) → a ≡ At r → PartRefused b name 0 × Typed b name r
 
 -- a is the answer that names the entry in row r of b
 pub record RowKeyed (b : List ℕ) (r : ℕ) (out : Bytes) (a : Answer) : Type 0 where

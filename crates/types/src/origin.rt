@@ -1,9 +1,9 @@
 // How the media type of a part was arrived at.
-use crate::media::type_row;
+use crate::media::TypeRow;
+use crate::media::find_type;
 use base::moves::copy_in;
 use contract::OVERRIDE_TAG;
 use contract::gate::opened;
-use parts::runs::part_refusal;
 use store::header::count;
 use store::rows::field;
 use store::rows::tag;
@@ -48,13 +48,13 @@ pub fn type_origin(pkg: &[u8], name: &[u8], out: &mut [u8]) -> TypeOrigin
     if k != 0 {
         return TypeOrigin::Refused(k);
     }
-    let k = part_refusal(pkg, name);
-    if k != 0 {
-        return TypeOrigin::Refused(k);
+    match find_type(pkg, name) {
+        TypeRow::Refused(k) => TypeOrigin::Refused(k),
+        TypeRow::At(r) => {
+            if r < count(pkg) {
+                return put_key(pkg, r, out);
+            }
+            TypeOrigin::Neither
+        }
     }
-    let r = type_row(pkg, name);
-    if r < count(pkg) {
-        return put_key(pkg, r, out);
-    }
-    TypeOrigin::Neither
 }

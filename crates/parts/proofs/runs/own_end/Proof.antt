@@ -1,3 +1,4 @@
+use mathlib.Core.Path.{refl}
 use native.Mathlib.Omega.{arith}
 use borrow.Author.Needs.{needs}
 use Rattle.parts.proofs.GroupEnds.{ended-alone, ended-own, ended-long}
@@ -15,7 +16,7 @@ returns-2 c =
 
 returns-3 : tie.Need-returns-3
 returns-3 c =
-    let at-field = c .before .before in
+    let at-field = c .before .before .before .before .before .before in
     let at-pre = at-field .before .before .before .before in
     ended-own _ _ _ (at-pre .pre .1) _ (at-field .field .ensures .2) _ (c .group-end .ensures)
 
@@ -23,5 +24,5 @@ pub own-end-spec : {M : Type 1} → statement M
 own-end-spec =
     tie.close
     (tie.spec
-    (λ c κs. search needs) (λ c. omega arith) returns (λ c κs. search needs) (λ c. omega arith) returns-2 (λ c. omega arith)
-    (λ c κs. search needs) returns-3)
+    (λ c κs. search needs) (λ c. omega arith) returns (λ c κs. search needs) (λ c. omega arith) returns-2 (λ c. search needs)
+    (λ c κs. (omega arith, refl)) (λ c. omega arith) (λ c κs. search needs) returns-3)

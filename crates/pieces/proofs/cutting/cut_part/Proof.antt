@@ -3,6 +3,7 @@ use native.Mathlib.Omega.{arith}
 use borrow.Author.Needs.{needs}
 use Rattle.model.specs.Calls.{CutPart}
 use Rattle.contract.proofs.Opening.{turned-away, let-in}
+use Rattle.parts.proofs.GroupRuns.{name-fits}
 use Rattle.pieces.proofs.CutCalls.{cut-misnamed, cut-stopped, cut-made}
 use Rattle.pieces.proofs.cutting.cut_part.Statement.{statement}
 use Rattle.pieces.proofs.cutting.cut_part.Tie as tie
@@ -20,22 +21,28 @@ returns-2 c =
     let at-opened = at-if1 .before in
     cut-misnamed _ (let-in _ _ (at-opened .opened .ensures) (at-if1 .if1 .left)) _ _ _ (at-name .is-part-name .ensures) (c .if2 .taken)
 
+fold-into-requires : tie.Need-fold-into-requires
+fold-into-requires c κs =
+    let at-if2 = c .before in
+    (name-fits _ _ (at-if2 .before .is-part-name .ensures) (at-if2 .if2 .left), refl)
+
 find-group-requires : tie.Need-find-group-requires
 find-group-requires c κs =
-    let at-if1 = c .before .before .before in
-    let-in _ _ (at-if1 .before .opened .ensures) (at-if1 .if1 .left) .shape
+    let at-fold-into = c .before .before .before in
+    let at-if1 = at-fold-into .before .before .before .before in
+    (let-in _ _ (at-if1 .before .opened .ensures) (at-if1 .if1 .left) .shape, at-fold-into .fold-into .ensures)
 
 cut-refusal-requires : tie.Need-cut-refusal-requires
 cut-refusal-requires c κs =
     let at-group = c .before in
-    let at-if1 = at-group .before .before .before .before in
+    let at-if1 = at-group .before .before .before .before .before .before .before .before in
     (let-in _ _ (at-if1 .before .opened .ensures) (at-if1 .if1 .left) .shape, at-group .find-group .ensures .few)
 
 returns-3 : tie.Need-returns-3
 returns-3 c =
     let at-refusal = c .before in
     let at-group = at-refusal .before .before in
-    let at-if2 = at-group .before .before in
+    let at-if2 = at-group .before .before .before .before .before .before in
     let at-name = at-if2 .before in
     let at-if1 = at-name .before in
     cut-stopped _ (let-in _ _ (at-if1 .before .opened .ensures) (at-if1 .if1 .left)) _ _ _ (at-name .is-part-name .ensures) (at-if2 .if2 .left) _ _ (at-group .find-group .ensures)
@@ -50,7 +57,7 @@ returns-4 c =
     let at-if3 = at-row .before .before in
     let at-refusal = at-if3 .before in
     let at-group = at-refusal .before .before in
-    let at-if2 = at-group .before .before in
+    let at-if2 = at-group .before .before .before .before .before .before in
     let at-name = at-if2 .before in
     let at-if1 = at-name .before in
     cut-made _ (let-in _ _ (at-if1 .before .opened .ensures) (at-if1 .if1 .left)) _ _ _ (at-name .is-part-name .ensures) (at-if2 .if2 .left) _ _ (at-group .find-group .ensures)
@@ -58,5 +65,6 @@ returns-4 c =
 
 pub cut-part-spec : {M : Type 1} → statement M
 cut-part-spec = tie.close (tie.spec
-    (λ c κs. search needs) (λ c. search needs) returns (λ c κs. search needs) (λ c. search needs) returns-2 find-group-requires
+    (λ c κs. search needs) (λ c. search needs) returns (λ c κs. search needs) (λ c. search needs) returns-2
+    (λ c. search needs) fold-into-requires find-group-requires
     cut-refusal-requires (λ c. search needs) returns-3 cut-row-requires (λ c. search needs) returns-4)

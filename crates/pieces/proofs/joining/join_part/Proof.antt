@@ -3,6 +3,7 @@ use native.Mathlib.Omega.{arith}
 use borrow.Author.Needs.{needs}
 use Rattle.model.specs.Calls.{Changes, JoinPart}
 use Rattle.contract.proofs.Opening.{turned-away, let-in}
+use Rattle.parts.proofs.GroupRuns.{name-fits}
 use Rattle.pieces.proofs.JoinCalls.{join-misnamed, join-missing, join-whole, join-done}
 use Rattle.pieces.proofs.joining.join_part.Statement.{statement}
 use Rattle.pieces.proofs.joining.join_part.Tie as tie
@@ -21,16 +22,22 @@ returns-2 c =
     let a = at-opened .before .before .before .before .args in
     join-misnamed _ (let-in _ _ (at-opened .opened .ensures) (at-if1 .if1 .left)) (a .name .now) _ (at-is-part-name .is-part-name .ensures) (c .if2 .taken)
 
+fold-into-requires : tie.Need-fold-into-requires
+fold-into-requires c κs =
+    let at-if2 = c .before in
+    (name-fits _ _ (at-if2 .before .is-part-name .ensures) (at-if2 .if2 .left), refl)
+
 find-group-requires : tie.Need-find-group-requires
 find-group-requires c κs =
-    let at-if1 = c .before .before .before in
-    let-in _ _ (at-if1 .before .opened .ensures) (at-if1 .if1 .left) .shape
+    let at-fold-into = c .before .before .before in
+    let at-if1 = at-fold-into .before .before .before .before in
+    (let-in _ _ (at-if1 .before .opened .ensures) (at-if1 .if1 .left) .shape, at-fold-into .fold-into .ensures)
 
 returns-3 : tie.Need-returns-3
 returns-3 c =
     let at-makes-part = c .before in
     let at-find-group = at-makes-part .before .before in
-    let at-if2 = at-find-group .before .before in
+    let at-if2 = at-find-group .before .before .before .before .before .before in
     let at-is-part-name = at-if2 .before in
     let at-if1 = at-is-part-name .before in
     let at-opened = at-if1 .before in
@@ -44,7 +51,7 @@ returns-4 c =
     let at-if3 = at-tag .before .before in
     let at-makes-part = at-if3 .before in
     let at-find-group = at-makes-part .before .before in
-    let at-if2 = at-find-group .before .before in
+    let at-if2 = at-find-group .before .before .before .before .before .before in
     let at-is-part-name = at-if2 .before in
     let at-if1 = at-is-part-name .before in
     let at-opened = at-if1 .before in
@@ -61,7 +68,7 @@ returns-5 c =
     let at-if3 = at-tag .before .before in
     let at-makes-part = at-if3 .before in
     let at-find-group = at-makes-part .before .before in
-    let at-if2 = at-find-group .before .before in
+    let at-if2 = at-find-group .before .before .before .before .before .before in
     let at-is-part-name = at-if2 .before in
     let at-if1 = at-is-part-name .before in
     let at-opened = at-if1 .before in
@@ -74,6 +81,7 @@ pub join-part-spec : {M : Type 1} → statement M
 join-part-spec =
     tie.close
     (tie.spec
-    (λ c κs. search needs) (λ c. search needs) returns (λ c κs. search needs) (λ c. search needs) returns-2 find-group-requires (λ c κs.
+    (λ c κs. search needs) (λ c. search needs) returns (λ c κs. search needs) (λ c. search needs) returns-2
+    (λ c. search needs) fold-into-requires find-group-requires (λ c κs.
     search needs) (λ c. search needs) returns-3 (λ c κs. search needs) (λ c. search needs) returns-4 (λ c. search needs) (λ c κs. search
     needs) (λ c. search needs) returns-5)

@@ -5,7 +5,7 @@ use Rattle.contract.specs.Rows.{second, defaultRows}
 use Rattle.contract.proofs.Opening.{turned-away, let-in}
 use Rattle.contract.proofs.RowKinds.{default-rows}
 use Rattle.contract.proofs.SetCalls.{drop-refused, drop-ran}
-use Rattle.types.proofs.TypeCalls.{dropping-default}
+use Rattle.types.proofs.TypeCalls.{extension-fits, dropping-default}
 use borrow.Author.Needs.{needs}
 use Rattle.types.proofs.calls.drop_default.Statement.{statement}
 use Rattle.types.proofs.calls.drop_default.Tie as tie
@@ -27,8 +27,12 @@ returns-2 c =
 
 drop-row-requires : tie.Need-drop-row-requires
 drop-row-requires c κs =
-    let at-if1 = c .before .before .before .before in
-    let-in _ _ (at-if1 .before .opened .ensures) (at-if1 .if1 .left) .shape
+    let at-if2 = c .before .before in
+    let at-refusal = at-if2 .before in
+    let at-if1 = at-refusal .before in (
+      let-in _ _ (at-if1 .before .opened .ensures) (at-if1 .if1 .left) .shape,
+      extension-fits _ (sym (at-refusal .extension-refusal .ensures) ∙ at-if2 .if2 .left) .1,
+    )
 
 returns-3 : tie.Need-returns-3
 unfolding second

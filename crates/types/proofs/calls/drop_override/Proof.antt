@@ -5,7 +5,7 @@ use Rattle.contract.specs.Rows.{second, overrideRows}
 use Rattle.contract.proofs.Opening.{turned-away, let-in}
 use Rattle.contract.proofs.RowKinds.{override-rows}
 use Rattle.contract.proofs.SetCalls.{drop-refused, drop-ran}
-use Rattle.types.proofs.TypeCalls.{dropping-override}
+use Rattle.types.proofs.TypeCalls.{part-fits, dropping-override}
 use borrow.Author.Needs.{needs}
 use Rattle.types.proofs.calls.drop_override.Statement.{statement}
 use Rattle.types.proofs.calls.drop_override.Tie as tie
@@ -27,8 +27,12 @@ returns-2 c =
 
 drop-row-requires : tie.Need-drop-row-requires
 drop-row-requires c κs =
-    let at-if1 = c .before .before .before .before in
-    let-in _ _ (at-if1 .before .opened .ensures) (at-if1 .if1 .left) .shape
+    let at-if2 = c .before .before in
+    let at-refusal = at-if2 .before in
+    let at-if1 = at-refusal .before in (
+      let-in _ _ (at-if1 .before .opened .ensures) (at-if1 .if1 .left) .shape,
+      part-fits _ (sym (at-refusal .name-refusal .ensures) ∙ at-if2 .if2 .left) .1,
+    )
 
 returns-3 : tie.Need-returns-3
 unfolding second

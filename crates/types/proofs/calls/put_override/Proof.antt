@@ -7,7 +7,7 @@ use Rattle.contract.specs.Rows.{overrideRow, overrideRows}
 use Rattle.contract.proofs.Opening.{turned-away, let-in}
 use Rattle.contract.proofs.RowKinds.{override-rows}
 use Rattle.contract.proofs.SetCalls.{put-refused, put-ran}
-use Rattle.types.proofs.TypeCalls.{putting-override, override-some}
+use Rattle.types.proofs.TypeCalls.{putting-override, override-fits}
 use borrow.Author.Needs.{needs}
 use Rattle.types.proofs.calls.put_override.Statement.{statement}
 use Rattle.types.proofs.calls.put_override.Tie as tie
@@ -32,10 +32,9 @@ put-row-requires c κs =
     let at-if2 = c .before .before .before in
     let at-refusal = at-if2 .before in
     let at-if1 = at-refusal .before in
-    let at-opened = at-if1 .before in (
-      let-in _ _ (at-opened .opened .ensures) (at-if1 .if1 .left) .shape,
-      (zero-numbered, (override-some _ _ (sym (at-refusal .override-refusal .ensures) ∙ at-if2 .if2 .left), omega arith)),
-    )
+    let at-opened = at-if1 .before in
+    let fits = override-fits _ _ (sym (at-refusal .override-refusal .ensures) ∙ at-if2 .if2 .left) in
+    ((let-in _ _ (at-opened .opened .ensures) (at-if1 .if1 .left) .shape, fits .1), (zero-numbered, (fits .0, omega arith)))
 
 returns-3 : tie.Need-returns-3
 unfolding overrideRow first

@@ -13,61 +13,55 @@ returns c =
     let args = at-opened .before .before .before .before .args in
     turned-away _ (TypeOrigin (args .name .now) (args .out .now)) _ refl (at-opened .opened .ensures) (c .if1 .taken)
 
-part-refusal-requires : tie.Need-part-refusal-requires
-part-refusal-requires c κs = let-in _ _ (c .before .opened .ensures) (c .if1 .left) .shape
-
-returns-2 : tie.Need-returns-2
-returns-2 c =
-    let at-part-refusal = c .before in
-    let at-if1 = at-part-refusal .before in
-    let at-opened = at-if1 .before in
-    let args = at-opened .before .before .before .before .args in
-    origin-stopped _ (let-in _ _ (at-opened .opened .ensures) (at-if1 .if1 .left)) (args .name .now) (args .out .now) _
-    (at-part-refusal .part-refusal .ensures) (c .if2 .taken)
-
-type-row-requires : tie.Need-type-row-requires
-type-row-requires c κs =
-    let at-if1 = c .before .before in
-    let-in _ _ (at-if1 .before .opened .ensures) (at-if1 .if1 .left) .shape
+find-type-requires : tie.Need-find-type-requires
+find-type-requires c κs = let-in _ _ (c .before .opened .ensures) (c .if1 .left) .shape
 
 put-key-requires : tie.Need-put-key-requires
 put-key-requires c κs =
-    let at-if3 = c .before in
-    let at-count = at-if3 .before in
-    let at-if1 = at-count .before .before .before .before in
-    (let-in _ _ (at-if1 .before .opened .ensures) (at-if1 .if1 .left) .shape, omega (arith, at-if3 .if3 .taken, at-count .count .ensures .0))
+    let at-if2 = c .before in
+    let at-count = at-if2 .before in
+    let at-if1 = at-count .before .before .before .before .before in
+    (let-in _ _ (at-if1 .before .opened .ensures) (at-if1 .if1 .left) .shape, omega (arith, at-if2 .if2 .taken, at-count .count .ensures .0))
+
+returns-2 : tie.Need-returns-2
+returns-2 c =
+    let at-put-key = c .before .before in
+    let at-if2 = at-put-key .before .before in
+    let at-count = at-if2 .before in
+    let at-r = at-count .before .before in
+    let at-find-type = at-r .before .before in
+    let at-if1 = at-find-type .before in
+    let at-opened = at-if1 .before in
+    let args = at-opened .before .before .before .before .args in
+    let row = at-find-type .find-type .ensures .found _ (at-r .r .given .1) in
+    origin-keyed _ (let-in _ _ (at-opened .opened .ensures) (at-if1 .if1 .left)) (args .name .now) (args .out .now) 0 (row .0) refl _ _ (row .1)
+    (at-count .count .ensures .0) (at-if2 .if2 .taken) _ (at-put-key .put-key .ensures)
 
 returns-3 : tie.Need-returns-3
 returns-3 c =
-    let at-put-key = c .before .before in
-    let at-if3 = at-put-key .before .before in
-    let at-count = at-if3 .before in
-    let at-type-row = at-count .before in
-    let at-if2 = at-type-row .before in
-    let at-part-refusal = at-if2 .before in
-    let at-if1 = at-part-refusal .before in
+    let at-k = c .before in
+    let at-find-type = at-k .before .before in
+    let at-if1 = at-find-type .before in
     let at-opened = at-if1 .before in
     let args = at-opened .before .before .before .before .args in
-    origin-keyed _ (let-in _ _ (at-opened .opened .ensures) (at-if1 .if1 .left)) (args .name .now) (args .out .now) _
-    (at-part-refusal .part-refusal .ensures) (at-if2 .if2 .left) _ _ (at-type-row .type-row .ensures) (at-count .count .ensures .0)
-    (at-if3 .if3 .taken) _ (at-put-key .put-key .ensures)
+    let stop = at-find-type .find-type .ensures .stopped _ (at-k .k .given .1) in
+    origin-stopped _ (let-in _ _ (at-opened .opened .ensures) (at-if1 .if1 .left)) (args .name .now) (args .out .now) _ (stop .1) (stop .0)
 
 returns-4 : tie.Need-returns-4
 returns-4 c =
     let at-count = c .before in
-    let at-type-row = at-count .before in
-    let at-if2 = at-type-row .before in
-    let at-part-refusal = at-if2 .before in
-    let at-if1 = at-part-refusal .before in
+    let at-r = at-count .before .before in
+    let at-find-type = at-r .before .before in
+    let at-if1 = at-find-type .before in
     let at-opened = at-if1 .before in
     let args = at-opened .before .before .before .before .args in
-    origin-neither _ (let-in _ _ (at-opened .opened .ensures) (at-if1 .if1 .left)) (args .name .now) (args .out .now) _
-    (at-part-refusal .part-refusal .ensures) (at-if2 .if2 .left) _ _ (at-type-row .type-row .ensures) (at-count .count .ensures .0)
-    (c .if3 .left)
+    let row = at-find-type .find-type .ensures .found _ (at-r .r .given .1) in
+    origin-neither _ (let-in _ _ (at-opened .opened .ensures) (at-if1 .if1 .left)) (args .name .now) (args .out .now) 0 (row .0) refl _ _ (row .1)
+    (at-count .count .ensures .0) (c .if2 .left)
 
 pub type-origin-spec : {M : Type 1} → statement M
 type-origin-spec =
     tie.close
     (tie.spec
-    (λ c κs. search needs) returns part-refusal-requires returns-2 type-row-requires (λ c κs. search needs) put-key-requires
-    (λ c. search needs) returns-3 returns-4)
+    (λ c κs. search needs) returns find-type-requires (λ c. search needs) (λ c. search needs) (λ c κs. search needs) put-key-requires
+    (λ c. search needs) returns-2 returns-3 returns-4)
