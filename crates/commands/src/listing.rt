@@ -1,5 +1,6 @@
 // The listing of the parts: one walk over the items, group by group.
 use base::numbers::smaller;
+use chars::folded::fold_into;
 use contract::search::item_count;
 use lines::printing::put_part_line;
 use parts::reading::content_length;
@@ -9,6 +10,8 @@ use store::header::count;
 use store::rows::field;
 use types::media::type_row;
 ghost use Prim.Native.Nat.{_≤_, _<_};
+ghost use lib.ListN.{length};
+ghost use Rattle.chars.specs.FoldedNames.{foldedSize};
 ghost use Rattle.store.specs.Layout.{slotCount};
 ghost use Rattle.store.specs.Packages.{Shape};
 ghost use Rattle.commands.specs.Listings.{ShortField, TypeText, PartSent, GroupSent, ListingSent};
@@ -26,10 +29,12 @@ fn short_field(pkg: &[u8], i: usize, j: usize, most: usize) -> &[u8]
 
 // The media type of a name; no bytes where it has none.
 fn type_of<'a>(pkg: &'a [u8], name: &[u8]) -> &'a [u8]
-    requires { ⌜ Shape (now pkg) ⌝ }
+    requires { ⌜ Shape (now pkg) × (length (now name) ≤ foldedSize) ⌝ }
     ensures { λ r. ⌜ TypeText (now (pkg .entry)) (now (name .entry)) (now r) ⌝ }
 {
-    let r = type_row(pkg, name);
+    let mut f = [0; 256];
+    fold_into(&mut f, name);
+    let r = type_row(pkg, &f, name);
     if r < count(pkg) {
         return short_field(pkg, r, 1, 127);
     }

@@ -8,6 +8,7 @@ use native.Mathlib.Omega.{arith}
 use lib.Dec.{leb}
 use lib.ListN.{length}
 use borrow.Author.Tests.{not-true, not-false, leb-true, le-leb, lt-leb}
+use Rattle.chars.specs.FoldedNames.{foldedSize}
 use Rattle.names.specs.Types.{identifier}
 use Rattle.names.specs.Iris.{packageIri}
 use Rattle.targets.specs.Targets.{sourceRefusal, targetRefusal, targetRefusalFrom}
@@ -36,6 +37,9 @@ module _ (s i : Bytes) (k : ℕ) (ek : k ≡ sourceRefusal s) where
 
     pub key-unidentified : y ≡ false → 8 ≡ first (sourceField s ∷ idField i ∷ [])
     key-unidentified e = sym (id-is false e)
+
+pub key-fits : (s i : Bytes) (k : ℕ) → k ≡ first (sourceField s ∷ idField i ∷ []) → k ≡ 0 → length s ≤ foldedSize
+key-fits s i k ek z = omega (arith, source-size s (all-none _ (sym ek ∙ z) .0) .1)
 
 -- THE FIELDS; k is the key's refusal
 module _ (s i v : Bytes) (m : ℕ) (t : Bytes) where
@@ -84,9 +88,9 @@ module _ (s i v : Bytes) (m : ℕ) (t : Bytes) where
 
   -- what accepted fields say
   module _ (z : relationshipFields s i v m t ≡ 0) where
-    pub source-some : 0 < length s
+    pub source-fits : (0 < length s) × (length s ≤ foldedSize)
     unfolding relationshipFields
-    source-some = source-size s (all-none _ z .0) .0
+    source-fits = let l = source-size s (all-none _ z .0) in (l .0, omega (arith, l .1))
 
     pub mode-small : m ≤ 1
     unfolding relationshipFields

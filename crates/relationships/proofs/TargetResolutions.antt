@@ -10,6 +10,7 @@ use lib.Dec.{eqb}
 use lib.ListN.{length, take}
 use lib.Seq.{length-take-le}
 use borrow.Author.Tests.{not-false, eq-eqb, ne-eqb}
+use Rattle.chars.specs.FoldedNames.{foldedSize}
 use Rattle.chars.specs.Bytes.{numberSign}
 use Rattle.chars.specs.Lists.{indexOf}
 use Rattle.chars.proofs.Searches.{index-le}
@@ -190,6 +191,9 @@ module _ (p : List ℕ) (o : Open p) (s i base out : Bytes) (k : ℕ) (ek : k �
   module _ (z : k ≡ 0) where
     pub package-size : length base ≤ 255
     package-size = package-few base (not-false (packageIri base) (unmet (not (packageIri base)) 9 (omega arith) (all-none _ (sym ek ∙ z) .1 .1 .0)))
+
+    pub source-fits : length s ≤ foldedSize
+    source-fits = omega (arith, source-size s (all-none _ (sym ek ∙ z) .0) .1)
 
     abbrev sought : State → Option Relationship
     sought S = lookup keyOfRelationship (relationshipKey s i) (S .relationships)

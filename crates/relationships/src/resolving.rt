@@ -1,15 +1,17 @@
 // Resolving a relationship: the IRI that its target leads to.
 use crate::calls::key_refusal;
+use chars::folded::fold_into;
 use chars::search::find;
 use contract::EXTERNAL_TAG;
 use contract::RELATIONSHIPS;
 use contract::entries::locate;
 use contract::gate::opened;
+use contract::search::SearchKey;
 use iri::references::put_reference;
 use iri::references::relative_path;
 use names::iris::is_package_iri;
 use pack::pack::put_pack_iri;
-use parts::runs::is_part;
+use parts::runs::is_any_part;
 use store::header::count;
 use store::rows::field;
 use store::rows::tag;
@@ -66,7 +68,7 @@ fn resolve_internal(
     if out.len() < length {
         return Resolution::Short(length);
     }
-    let held = is_part(pkg, &path[..k]);
+    let held = is_any_part(pkg, &path[..k]);
     Resolution::Internal { length, held }
 }
 
@@ -120,7 +122,15 @@ pub fn resolve_relationship(
     if k != 0 {
         return Resolution::Refused(k);
     }
-    let r = locate(pkg, RELATIONSHIPS, source, 0, id);
+    let mut f = [0; 256];
+    fold_into(&mut f, source);
+    let w = SearchKey {
+        set: RELATIONSHIPS,
+        at: 0,
+        length: source.len(),
+        tag: 0,
+    };
+    let r = locate(pkg, w, &f, id);
     if r < count(pkg) {
         return resolve_row(pkg, r, base, out);
     }

@@ -1,9 +1,11 @@
 // The calls that write a stream. Rows stand in the order of their keys, so what is listed is a run of them, found by its ends.
 use crate::listing::write_stream;
+use chars::folded::fold_into;
 use contract::DEFAULTS;
 use contract::RELATIONSHIPS;
 use contract::gate::opened;
-use contract::search::bound;
+use contract::search::SearchKey;
+use contract::search::seek;
 use contract::search::set_start;
 use output::writing::Written;
 use targets::targets::source_refusal;
@@ -43,8 +45,18 @@ pub fn write_relationships(pkg: &[u8], source: &[u8], out: &mut [u8]) -> Written
     if k != 0 {
         return Written::Refused(k);
     }
-    let from = bound(pkg, RELATIONSHIPS, source, 0, b"");
-    let to = bound(pkg, RELATIONSHIPS, source, 0, b"~");
+    let mut f = [0; 256];
+    fold_into(&mut f, source);
+    let w = SearchKey {
+        set: RELATIONSHIPS,
+        at: 0,
+        length: source.len(),
+        tag: 0,
+    };
+    let first = seek(pkg, w, &f, b"");
+    let past = seek(pkg, w, &f, b"~");
+    let from = first.row;
+    let to = past.row;
     write_stream(
         pkg,
         from,

@@ -4,7 +4,7 @@ use Rattle.contract.proofs.Opening.{turned-away, let-in}
 use Rattle.contract.specs.Rows.{second, relationshipRows}
 use Rattle.contract.proofs.RowKinds.{relationship-rows}
 use Rattle.contract.proofs.SetCalls.{drop-refused, drop-ran}
-use Rattle.relationships.proofs.RelationshipCalls.{dropping}
+use Rattle.relationships.proofs.RelationshipCalls.{key-fits, dropping}
 use borrow.Author.Needs.{needs}
 use Rattle.relationships.proofs.calls.drop_relationship.Statement.{statement}
 use Rattle.relationships.proofs.calls.drop_relationship.Tie as tie
@@ -27,9 +27,11 @@ returns-2 c =
 
 drop-row-requires : tie.Need-drop-row-requires
 drop-row-requires c κs =
-    let at-if1 = c .before .before .before in
+    let at-if2 = c .before in
+    let at-key-refusal = at-if2 .before in
+    let at-if1 = at-key-refusal .before in
     let opened = at-if1 .before .opened in
-    let-in _ _ (opened .ensures) (at-if1 .if1 .left) .shape
+    (let-in _ _ (opened .ensures) (at-if1 .if1 .left) .shape, key-fits _ _ _ (at-key-refusal .key-refusal .ensures) (at-if2 .if2 .left))
 
 returns-3 : tie.Need-returns-3
 unfolding second

@@ -7,7 +7,7 @@ use Rattle.model.proofs.Numbers.{zero-numbered}
 use Rattle.contract.specs.Rows.{relationshipRow, relationshipRows}
 use Rattle.contract.proofs.RowKinds.{relationship-rows}
 use Rattle.contract.proofs.SetCalls.{put-refused, put-ran}
-use Rattle.relationships.proofs.RelationshipCalls.{source-some, mode-small, putting}
+use Rattle.relationships.proofs.RelationshipCalls.{source-fits, mode-small, putting}
 use borrow.Author.Needs.{needs}
 use Rattle.relationships.proofs.calls.put_relationship.Statement.{statement}
 use Rattle.relationships.proofs.calls.put_relationship.Tie as tie
@@ -46,17 +46,10 @@ put-row-requires c κs =
     let at-opened = at-if1 .before in
     let at-args = at-opened .before .before .before .before .before .before .before in
     let l = mode-small (at-args .args .source .now) (at-args .args .id .now) (at-args .args .kind .now) (at-args .args .mode)
-    (at-args .args .target .now) (sym (at-fields-refusal .fields-refusal .ensures) ∙ at-if2 .if2 .left) in (
-      let-in _ _ (at-opened .opened .ensures) (at-if1 .if1 .left) .shape,
-      (
-        zero-numbered,
-        (
-          source-some (at-args .args .source .now) (at-args .args .id .now) (at-args .args .kind .now) (at-args .args .mode)
-              (at-args .args .target .now) (sym (at-fields-refusal .fields-refusal .ensures) ∙ at-if2 .if2 .left),
-          omega arith,
-        ),
-      ),
-    )
+    (at-args .args .target .now) (sym (at-fields-refusal .fields-refusal .ensures) ∙ at-if2 .if2 .left) in
+    let fits = source-fits (at-args .args .source .now) (at-args .args .id .now) (at-args .args .kind .now) (at-args .args .mode)
+    (at-args .args .target .now) (sym (at-fields-refusal .fields-refusal .ensures) ∙ at-if2 .if2 .left) in
+    ((let-in _ _ (at-opened .opened .ensures) (at-if1 .if1 .left) .shape, fits .1), (zero-numbered, (fits .0, omega arith)))
 
 returns-3 : tie.Need-returns-3
 unfolding relationshipRow first

@@ -35,8 +35,8 @@ returns c =
     (at-relative-path .relative-path .ensures) (at-args .args .pkg .now) (at-args .args .base .now) (at-args .args .out .now) _ _
     (at-put-pack-iri .put-pack-iri .ensures) (at-put-pack-iri .put-pack-iri .kept .1 .1 .0) (c .if1 .taken)
 
-slice-aggregate-is-part : tie.Need-slice-aggregate-is-part
-slice-aggregate-is-part c =
+slice-aggregate-is-any-part : tie.Need-slice-aggregate-is-any-part
+slice-aggregate-is-any-part c =
     let at-relative-path = c .before .before .before .before .before .before .before .before in
     let at-args = at-relative-path .before .before .before .before .before .before .before in
     sym (length-take-le _ _ (omega (
@@ -54,11 +54,11 @@ returns-2 c =
     let at-args = at-relative-path .before .before .before .before .before .before .before in
     internal-whole (at-args .args .source .now) (at-args .args .target .now) (at-args .pre .1) (at-args .pre .2) _ _
     (at-relative-path .relative-path .ensures) (at-args .args .pkg .now) (at-args .args .base .now) (at-args .args .out .now) _ _
-    (at-put-pack-iri .put-pack-iri .ensures) (at-put-pack-iri .put-pack-iri .kept .1 .1 .0) (at-if1 .if1 .left) _ (c .is-part .ensures)
+    (at-put-pack-iri .put-pack-iri .ensures) (at-put-pack-iri .put-pack-iri .kept .1 .1 .0) (at-if1 .if1 .left) _ (c .is-any-part .ensures)
 
 pub resolve-internal-spec : {M : Type 1} → statement M
 resolve-internal-spec =
     tie.close
     (tie.spec
     (λ c. search needs) (λ c κs. search needs) (λ c. search needs) slice-aggregate-put-pack-iri put-pack-iri-requires (λ c. search needs)
-    returns (λ c. search needs) slice-aggregate-is-part (λ c κs. search needs) (λ c. search needs) returns-2)
+    returns (λ c. search needs) slice-aggregate-is-any-part (λ c κs. search needs) (λ c. search needs) returns-2)
