@@ -3,7 +3,7 @@
 use crate::origins::typed_name;
 use crate::support::calls::Call;
 use crate::support::Random;
-use crate::texts::SEGMENTS;
+use crate::texts::{beginning, forked_name, SEGMENTS};
 use reference::ledger::Ledger;
 use std::collections::VecDeque;
 use zombirels::package::CAPACITY_MAX;
@@ -145,9 +145,14 @@ fn random_capacity(random: &mut Random, style: Style) -> u64 {
 fn random_prefix(random: &mut Random, style: Style, number: usize) -> Vec<u8> {
     match style {
         Style::Full | Style::Tiles | Style::FullFields => {
-            format!("/Tiles/L{}/t{number}.tiff", number % 3).into_bytes()
+            let stem = match random.below(4) {
+                0 => beginning(random),
+                _ => format!("/Tiles/L{}/t", number % 3).into_bytes(),
+            };
+            [stem, format!("{number}.tiff").into_bytes()].concat()
         }
         Style::Origins => typed_name(random),
+        _ if random.once_in(4) => forked_name(random),
         _ if random.once_in(12) => {
             let length = 250 + random.below(7); // up to 256, one too long
             let mut name = b"/long".to_vec();

@@ -3,7 +3,9 @@
 use crate::support::Random;
 
 #[rustfmt::skip]
-pub const SEGMENTS: &[&[u8]] = &[b"a", b"b", b"a.b", b"ab", b"T3", b"\xC3\xA9", b"\xC3\x89", b"%20", b"_rels", b"x.rels", b"R&D.&"];
+pub const SEGMENTS: &[&[u8]] = &[
+    b"a", b"b", b"a.b", b"ab", b"T3", b"\xC3\xA9", b"\xC3\x89", b"%20", b"%C3", b"_rels", b"x.rels", b"R&D.&", b"Az", b"a@",
+];
 
 #[rustfmt::skip]
 pub const ODD_SUFFIXES: &[&[u8]] = &[
@@ -21,7 +23,8 @@ pub const RESERVED: &[&[u8]] = &[b"/_rels/.rels", b"/_Rels/a.RELS", b"/x/_RELS/y
 
 #[rustfmt::skip]
 pub const EXTENSIONS: &[&[u8]] = &[
-    b"b", b"&", b"&&&", b"tiff", b"xml", b"rels", b"\xC3\xA9", b"\xC3\x89", b"%20", b"x", b"abcdefghijklmnopqrstuvwxyz-12345",
+    b"b", b"&", b"&&&", b"tiff", b"tif", b"tiffZ", b"tiff@", b"xml", b"rels", b"\xC3\xA9", b"\xC3\x89", b"%20", b"x",
+    b"abcdefghijklmnopqrstuvwxyz-12345",
 ];
 
 #[rustfmt::skip]
@@ -70,6 +73,24 @@ pub const ODD_MODES: &[u64] = &[
     1 << 63,
     u64::MAX,
 ];
+
+/// The path whose beginnings names share.
+const PATH: &[u8] = b"/tiles-of-the-Left-Ovary-17-scanned-in-2026-";
+
+/// As many bytes of a long path as names may share, few or up to 240.
+pub fn beginning(random: &mut Random) -> Vec<u8> {
+    let most = random.pick(&[2, 9, 44, 240]);
+    let bytes = PATH.iter().chain(PATH[1..].iter().cycle());
+    bytes.take(1 + random.below(most)).copied().collect()
+}
+
+/// A name that begins as others do, and leaves their path by a few bytes.
+pub fn forked_name(random: &mut Random) -> Vec<u8> {
+    let ends: [&[u8]; 8] = [b"a", b"Z", b"-", b"@", b"~", b"t", b"-17", b"/t"];
+    let mut name = beginning(random);
+    name.extend_from_slice(random.pick(&ends));
+    name
+}
 
 /// A well-formed text most often, in its own or in another case, or an odd one.
 pub fn field(random: &mut Random, texts: &[&[u8]], odd: &[&[u8]]) -> Vec<u8> {
