@@ -91,6 +91,17 @@ index-before b (x ∷ s) = go (eqb x b) refl (index-before b s)
     go true e ih = refl
     go false e ih = rw e (ap suc ih)
 
+-- no byte before the first b is one
+pub index-every : (b : ℕ) (s : List ℕ) → every (λ (x : ℕ). not (eqb x b)) (take (indexOf b s) s) ≡ true
+unfolding firstOf every
+index-every b [] = refl
+index-every b (x ∷ s) = go (eqb x b) refl (index-every b s)
+  where
+    go : (q : Bool) → eqb x b ≡ q → every (λ (y : ℕ). not (eqb y b)) (take (indexOf b s) s) ≡ true
+        → every (λ (y : ℕ). not (eqb y b)) (take (cond q 0 (suc (indexOf b s))) (x ∷ s)) ≡ true
+    go true e ih = refl
+    go false e ih = rw e ih
+
 pub first-take : (p : ℕ → Bool) (s : List ℕ) (m : ℕ) → firstOf p s < m → firstOf p (take m s) ≡ firstOf p s
 unfolding firstOf
 first-take p s zero h = absurd (not-suc-le-zero h)

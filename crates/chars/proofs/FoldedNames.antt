@@ -1,8 +1,8 @@
 -- A wanted name, folded once: the array that holds it, and eight bytes compared with eight of it.
 -- Assumes nothing.
 use Prim.Native.Nat.{ℕ, zero, suc, _+_, _-_, _≤_, _<_, min}
-use mathlib.Core.Path.{_≡_, ap, sym, _∙_, subst}
-use mathlib.Core.Bool.{Bool, true, false}
+use mathlib.Core.Path.{_≡_, refl, ap, sym, _∙_, subst}
+use mathlib.Core.Bool.{Bool, true, false, _&&_, _||_}
 use mathlib.Core.List.{List, [], _∷_, map-append}
 use native.Mathlib.Nat.{sub-zero, zero-sub, suc-sub-suc}
 use native.Mathlib.Numerals.{add-one}
@@ -10,13 +10,13 @@ use native.Mathlib.Omega.{arith, min-cases}
 use lib.Dec.{eqb}
 use lib.ListN.{length, getD, take, drop, set, length-map}
 use lib.Seq.{take-suc-set, take-suc, take-length, take-all, take-nil}
-use borrow.Author.Tests.{eqb-true, eqb-false}
+use borrow.Author.Tests.{eqb-true, eqb-false, eq-eqb}
 use Rattle.base.specs.Buffer.{part}
-use Rattle.base.proofs.Bools.{not-passing}
+use Rattle.base.proofs.Bools.{and-right, not-passing}
 use Rattle.chars.specs.Lists.{same}
 use Rattle.chars.specs.Folding.{lower, fold, equivalent}
 use Rattle.chars.specs.Comparing.{sameEight}
-use Rattle.chars.specs.FoldedNames.{foldedSize, HoldsFolding, foldedEight, SharedSome, Shared, OrderPast}
+use Rattle.chars.specs.FoldedNames.{foldedSize, HoldsFolding, foldedEight, heldEight, SharedSome, Shared, OrderPast}
 use Rattle.chars.specs.declared.folding.Order.{Order}
 use Rattle.chars.specs.declared.folding.Order.the-variants.{Less, Equal, Greater}
 use Rattle.chars.proofs.Equivalence.{same-eq, same-refl}
@@ -74,12 +74,20 @@ unfolding part
 part-folded q at n e = sym (take-map lower n (drop at q)) ∙ ap (take n) (sym (drop-map lower at q)) ∙ ap (λ (l : List ℕ). take n (drop at l)) e
 
 -- EIGHT BYTES
-pub folded-eight-same : (a q : List ℕ) (i : ℕ) → fold q ≡ q → sameEight false a q i ≡ true → true ≡ foldedEight a q i
+folded-eight-same : (a q : List ℕ) (i : ℕ) → fold q ≡ q → sameEight false a q i ≡ true → foldedEight a q i ≡ true
 unfolding foldedEight part
 folded-eight-same a q i z e =
     let t = take 8 (drop i q) in
     let p : take 8 (drop i a) ≡ t = sym (map-plain (take 8 (drop i a))) ∙ same-eight-eq false a q i e ∙ map-plain t in
-    sym (ap (λ (l : List ℕ). same l t) (ap fold p ∙ part-folded q i 8 z) ∙ same-refl t)
+    ap (λ (l : List ℕ). same l t) (ap fold p ∙ part-folded q i 8 z) ∙ same-refl t
+
+held-eight : (f : Bool) (a q : List ℕ) (i : ℕ) → fold q ≡ q → heldEight f a q i ≡ true → foldedEight a q i ≡ true
+unfolding heldEight
+held-eight f a q i z e = go (sameEight false a q i) refl e
+  where
+    go : (p : Bool) → sameEight false a q i ≡ p → (p || f && foldedEight a q i) ≡ true → foldedEight a q i ≡ true
+    go true h g = folded-eight-same a q i z h
+    go false h g = and-right f (foldedEight a q i) g
 
 folded-eight-eq : (a q : List ℕ) (i : ℕ) → foldedEight a q i ≡ true → take 8 (drop i (fold a)) ≡ take 8 (drop i q)
 unfolding foldedEight
@@ -97,11 +105,11 @@ shared-past a q i n e l = min-cases (length a) (length q) (SharedSome a q i n) (
     made h k = record { left = h; right = k; is = λ m. omega (arith, l) }
 
 module _ (a q : List ℕ) (from i : ℕ) (s : SharedSome a q from i) where
-  pub shared-more : (z : Bool) → i + 8 ≤ length a → i + 8 ≤ length q → z ≡ foldedEight a q i → z ≡ true → SharedSome a q from (i + 8)
-  shared-more z h k e t = record {
+  pub shared-more : fold q ≡ q → (f z : Bool) → i + 8 ≤ length a → i + 8 ≤ length q → z ≡ heldEight f a q i → z ≡ true → SharedSome a q from (i + 8)
+  shared-more p f z h k e t = record {
     left = h;
     right = k;
-    is = λ m. common-more (fold a) q i (s .is m) 8 (omega (arith, length-map a lower)) k (folded-eight-eq a q i (sym e ∙ t));
+    is = λ m. common-more (fold a) q i (s .is m) 8 (omega (arith, length-map a lower)) k (folded-eight-eq a q i (held-eight f a q i p (sym e ∙ t)));
   }
 
   module _ (h : i < length a) (k : i < length q) (z : Bool) (ez : z ≡ eqb (lower (getD a i 0)) (getD q i 0)) where
@@ -119,6 +127,16 @@ module _ (a q : List ℕ) (from i : ℕ) (s : SharedSome a q from i) where
     shared-stop e = record {
       is = λ m. common-stop (fold a) q i (s .is m) inside k (λ f. eqb-false (lower (getD a i 0)) (getD q i 0) (sym ez ∙ e) (sym (getD-fold a i) ∙ f));
     }
+
+  -- q is folded: a byte that is the same as it stands is the same folded
+  pub shared-byte : fold q ≡ q → i < length a → i < length q → getD a i 0 ≡ getD q i 0 → SharedSome a q from (i + 1)
+  shared-byte z h k e =
+      let f : lower (getD a i 0) ≡ getD q i 0 = ap lower e ∙ sym (getD-fold q i) ∙ ap (λ (l : List ℕ). getD l i 0) z in
+      shared-next h k true (sym (eq-eqb (lower (getD a i 0)) (getD q i 0) f)) refl
+
+  -- what is told from there on
+  pub shared-on : (c : ℕ) → Shared a q i c → Shared a q from c
+  shared-on c t = record { is = λ m. t .is (s .is m) }
 
   pub shared-end : (n : ℕ) → n ≡ min (length a) (length q) → n ≤ i → Shared a q from i
   shared-end n e l = record { is = λ m. common-end (fold a) q i (s .is m) n (e ∙ ap (λ (k : ℕ). min k (length q)) (sym (length-map a lower))) l }

@@ -9,7 +9,7 @@ use lib.Dec.{eqb}
 use lib.ListN.{length, take, drop, getD}
 use lib.Seq.{drop-cons, take-add}
 use borrow.Author.Tests.{le-ltb, eq-eqb}
-use Rattle.chars.specs.Lists.{same}
+use Rattle.chars.specs.Lists.{same, every}
 use Rattle.chars.specs.Folding.{lower, fold, equivalent, order}
 use Rattle.chars.specs.Comparing.{inCase, sameEight}
 use Rattle.chars.proofs.Equivalence.{same-eq, same-refl}
@@ -42,6 +42,21 @@ all-eight true true true true true false v w = refl
 all-eight true true true true true true false w = refl
 all-eight true true true true true true true true = refl
 all-eight true true true true true true true false = refl
+
+-- the tests of eight bytes of a text
+pub every-eight : (p : ℕ → Bool) (s : List ℕ) (i : ℕ) → i + 8 ≤ length s → (t0 t1 t2 t3 t4 t5 t6 t7 : Bool)
+    → t0 ≡ p (getD s i 0)
+    → t1 ≡ p (getD s (i + 1) 0)
+    → t2 ≡ p (getD s (i + 2) 0)
+    → t3 ≡ p (getD s (i + 3) 0)
+    → t4 ≡ p (getD s (i + 4) 0)
+    → t5 ≡ p (getD s (i + 5) 0)
+    → t6 ≡ p (getD s (i + 6) 0)
+    → t7 ≡ p (getD s (i + 7) 0)
+    → (((((((t0 && t1) && t2) && t3) && t4) && t5) && t6) && t7) ≡ every p (take 8 (drop i s))
+unfolding every
+every-eight p s i h t0 t1 t2 t3 t4 t5 t6 t7 e0 e1 e2 e3 e4 e5 e6 e7 =
+    all-eight t0 t1 t2 t3 t4 t5 t6 t7 ∙ rw (take-eight s i h, e0, e1, e2, e3, e4, e5, e6, e7)
 
 -- the tests of eight bytes of two texts, each read by its own function
 module _ (f g : ℕ → ℕ) (a b : List ℕ) (i : ℕ) (h : i + 8 ≤ length a) (k : i + 8 ≤ length b) where

@@ -67,6 +67,21 @@ module _ (b : ℕ) where
   pub index-end : (s : List ℕ) (i : ℕ) → length s ≤ i → i + indexOf b (drop i s) ≡ i
   index-end s i h = first-end (λ (x : ℕ). eqb x b) s i h
 
+  -- no b at i nor at some places behind it
+  module _ (s : List ℕ) (i : ℕ) (n0 : getD s i 0 ≡ b → ⊥) (n1 : getD s (i + 1) 0 ≡ b → ⊥) where
+    next : (j k : ℕ) → k ≡ j + 1 → j < length s → (getD s j 0 ≡ b → ⊥) → j + indexOf b (drop j s) ≡ k + indexOf b (drop k s)
+    next j k e h n = index-miss s j h n ∙ ap (λ (m : ℕ). m + indexOf b (drop m s)) (sym e)
+
+    pub index-miss2 : i + 1 < length s → i + indexOf b (drop i s) ≡ i + 2 + indexOf b (drop (i + 2) s)
+    index-miss2 h = index-miss s i (omega arith) n0 ∙ next (i + 1) (i + 2) (omega arith) h n1
+
+    module _ (n2 : getD s (i + 2) 0 ≡ b → ⊥) where
+      pub index-miss3 : i + 2 < length s → i + indexOf b (drop i s) ≡ i + 3 + indexOf b (drop (i + 3) s)
+      index-miss3 h = index-miss2 (omega arith) ∙ next (i + 2) (i + 3) (omega arith) h n2
+
+      pub index-miss4 : (getD s (i + 3) 0 ≡ b → ⊥) → i + 3 < length s → i + indexOf b (drop i s) ≡ i + 4 + indexOf b (drop (i + 4) s)
+      index-miss4 n3 h = index-miss3 (omega arith) ∙ next (i + 3) (i + 4) (omega arith) h n3
+
 -- the same, where a search from the start found i
 module _ (b : ℕ) (s : List ℕ) (i : ℕ) (here : i ≡ 0 + indexOf b s) where
   pub index-found : indexOf b s ≡ i
@@ -154,6 +169,35 @@ pub every-imp : (p r : ℕ → Bool) → ((x : ℕ) → p x ≡ true → r x ≡
 unfolding every
 every-imp p r h [] e = refl
 every-imp p r h (x ∷ s) e = and-true (r x) (every r s) (h x (and-left (p x) (every p s) e)) (every-imp p r h s (and-right (p x) (every p s) e))
+
+-- what passes two tests passes a third that follows from them
+pub every-both : (p q r : ℕ → Bool) → ((x : ℕ) → p x ≡ true → q x ≡ true → r x ≡ true) → (s : List ℕ) → every p s ≡ true → every q s ≡ true → every r s ≡ true
+unfolding every
+every-both p q r h [] e f = refl
+every-both p q r h (x ∷ s) e f =
+    and-true (r x) (every r s) (h x (and-left (p x) (every p s) e) (and-left (q x) (every q s) f))
+    (every-both p q r h s (and-right (p x) (every p s) e) (and-right (q x) (every q s) f))
+
+pub every-take : (p : ℕ → Bool) (n : ℕ) (s : List ℕ) → every p s ≡ true → every p (take n s) ≡ true
+unfolding every
+every-take p zero s e = refl
+every-take p (suc n) [] e = refl
+every-take p (suc n) (x ∷ s) e = and-true (p x) (every p (take n s)) (and-left (p x) (every p s) e) (every-take p n s (and-right (p x) (every p s) e))
+
+-- the first k bytes pass, also of what a longer or a shorter beginning holds
+pub every-take-take : (p : ℕ → Bool) (k n : ℕ) (s : List ℕ) → every p (take k s) ≡ true → every p (take k (take n s)) ≡ true
+unfolding every
+every-take-take p zero n s e = refl
+every-take-take p (suc k) zero s e = refl
+every-take-take p (suc k) (suc n) [] e = refl
+every-take-take p (suc k) (suc n) (x ∷ s) e =
+    and-true (p x) (every p (take k (take n s))) (and-left (p x) (every p (take k s)) e) (every-take-take p k n s (and-right (p x) (every p (take k s)) e))
+
+pub every-drop : (p : ℕ → Bool) (n : ℕ) (s : List ℕ) → every p s ≡ true → every p (drop n s) ≡ true
+unfolding every
+every-drop p zero s e = e
+every-drop p (suc n) [] e = refl
+every-drop p (suc n) (x ∷ s) e = every-drop p n s (and-right (p x) (every p s) e)
 
 pub every-getD : (p : ℕ → Bool) → p 0 ≡ true → (s : List ℕ) (i : ℕ) → every p s ≡ true → p (getD s i 0) ≡ true
 unfolding every

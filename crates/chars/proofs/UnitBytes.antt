@@ -144,3 +144,11 @@ covers-but g c s h p l = record {
   hexes = class-but hexDigit c h;
   highs = λ b k. rw (ne-eqb b c (λ e. omega arith));
 }
+
+-- bytes at the beginning that are units by themselves
+pub tiled-singles : (g : Grammar) (k : ℕ) (s : List ℕ) → every (single g) (take k s) ≡ true → tiled (unit g) 0 s ≡ tiled (unit g) 0 (drop k s)
+unfolding every tiled unit
+tiled-singles g zero s e = refl
+tiled-singles g (suc k) [] e = refl
+tiled-singles g (suc k) (b ∷ s) e =
+    rw (and-left (single g b) (every (single g) (take k s)) e) (tiled-singles g k s (and-right (single g b) (every (single g) (take k s)) e))

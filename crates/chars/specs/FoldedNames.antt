@@ -2,12 +2,13 @@
 -- Assumes nothing.
 use Prim.Native.Nat.{ℕ, suc, _≤_}
 use mathlib.Core.Path.{_≡_}
-use mathlib.Core.Bool.{Bool, cond}
+use mathlib.Core.Bool.{Bool, false, _&&_, _||_, cond}
 use mathlib.Core.List.{List, [], _∷_}
 use lib.Dec.{eqb}
 use lib.ListN.{length, take, drop}
 use Rattle.chars.specs.Lists.{same}
 use Rattle.chars.specs.Folding.{fold, order}
+use Rattle.chars.specs.Comparing.{sameEight}
 use Rattle.chars.specs.declared.folding.Order.{Order}
 
 -- no name, source or extension that is asked for has more bytes
@@ -22,6 +23,10 @@ pub record HoldsFolding (array name : List ℕ) : Type 0 where
 -- eight bytes of a, from index i on, folded, are those of q
 unfoldable pub foldedEight : List ℕ → List ℕ → ℕ → Bool
 foldedEight a q i = same (fold (take 8 (drop i a))) (take 8 (drop i q))
+
+-- they are as they stand, or folded where that is looked at
+unfoldable pub heldEight : Bool → List ℕ → List ℕ → ℕ → Bool
+heldEight folded a q i = sameEight false a q i || folded && foldedEight a q i
 
 -- how many elements at the beginning of two lists are the same
 unfoldable pub common : List ℕ → List ℕ → ℕ

@@ -10,7 +10,7 @@ ghost use lib.ListN.{length};
 ghost use Rattle.base.specs.Buffer.{part};
 ghost use Rattle.chars.specs.Lists.{same};
 ghost use Rattle.chars.specs.Folding.{fold};
-ghost use Rattle.chars.specs.FoldedNames.{foldedSize, HoldsFolding, foldedEight, SharedSome, Shared, OrderPast};
+ghost use Rattle.chars.specs.FoldedNames.{foldedSize, HoldsFolding, foldedEight, heldEight, SharedSome, Shared, OrderPast};
 
 // How many bytes the array has that a wanted name is folded into.
 pub const FOLDED_SIZE: usize = 256;
@@ -56,19 +56,23 @@ fn is_folded_eight(a: &[u8], q: &[u8], i: usize) -> bool
         & folds_to_byte(a[i + 7], q[i + 7])
 }
 
-// Eight bytes of a, folded, are those of q. Mostly they are the same as they stand.
-fn folds_to_eight(a: &[u8], q: &[u8], i: usize) -> bool
-    requires { ⌜ (i + 8 ≤ length (now a)) × (i + 8 ≤ length (now q)) × (fold (now q) ≡ now q) ⌝ }
-    ensures { λ r. ⌜ r ≡ foldedEight (now (a .entry)) (now (q .entry)) i ⌝ }
+// Eight bytes of a are those of q: as they stand, as mostly, or folded, if that is looked at.
+fn folds_to_eight(a: &[u8], q: &[u8], i: usize, folded: bool) -> bool
+    requires { ⌜ (i + 8 ≤ length (now a)) × (i + 8 ≤ length (now q)) ⌝ }
+    ensures { λ r. ⌜ r ≡ heldEight folded (now (a .entry)) (now (q .entry)) i ⌝ }
 {
     if is_same_eight(a, q, i) {
         return true;
     }
-    is_folded_eight(a, q, i)
+    if folded {
+        return is_folded_eight(a, q, i);
+    }
+    false
 }
 
-// So many bytes of a at least, folded, are those of q at its beginning, if the first `from` are.
-fn shared_eights(a: &[u8], q: &[u8], from: usize) -> usize
+// So many bytes of a at least, folded, are those of q at its beginning, if the first `from` are. Where `folded` is not set, only those are taken that are
+// the same as they stand.
+fn shared_eights(a: &[u8], q: &[u8], from: usize, folded: bool) -> usize
     requires { ⌜ fold (now q) ≡ now q ⌝ }
     ensures { λ r. ⌜ SharedSome (now (a .entry)) (now (q .entry)) from r ⌝ }
 {
@@ -78,7 +82,7 @@ fn shared_eights(a: &[u8], q: &[u8], from: usize) -> usize
     }
     let mut i = from;
     while 8 <= n - i {
-        if folds_to_eight(a, q, i) {
+        if folds_to_eight(a, q, i, folded) {
             i += 8;
         } else {
             return i;
@@ -93,7 +97,7 @@ pub fn shared_start(a: &[u8], q: &[u8], from: usize) -> usize
     ensures { λ r. ⌜ Shared (now (a .entry)) (now (q .entry)) from r ⌝ }
 {
     let n = smaller(a.len(), q.len());
-    let mut i = shared_eights(a, q, from);
+    let mut i = shared_eights(a, q, from, true);
     while i < n {
         if folds_to_byte(a[i], q[i]) {
             i += 1;
@@ -102,6 +106,37 @@ pub fn shared_start(a: &[u8], q: &[u8], from: usize) -> usize
         }
     }
     i
+}
+
+// So many bytes of a at least, up to the first that is not the same as it stands, are those of q at its beginning, if the first `from` are.
+fn same_bytes(a: &[u8], q: &[u8], from: usize) -> usize
+    requires { ⌜ fold (now q) ≡ now q ⌝ }
+    ensures { λ r. ⌜ SharedSome (now (a .entry)) (now (q .entry)) from r ⌝ }
+{
+    let end = smaller(a.len(), q.len());
+    let mut i = shared_eights(a, q, from, false);
+    while i < end {
+        if a[i] == q[i] {
+            i += 1;
+        } else {
+            return i;
+        }
+    }
+    i
+}
+
+// What shared_start tells, sooner where a has no capitals.
+pub fn shared_first(a: &[u8], q: &[u8], from: usize) -> usize
+    requires { ⌜ fold (now q) ≡ now q ⌝ }
+    ensures { λ r. ⌜ Shared (now (a .entry)) (now (q .entry)) from r ⌝ }
+{
+    let c = same_bytes(a, q, from);
+    if c < smaller(a.len(), q.len()) {
+        if folds_to_byte(a[c], q[c]) {
+            return shared_start(a, q, c);
+        }
+    }
+    c
 }
 
 // How a, folded, stands to q, where c bytes at their beginning are the same, and no more.

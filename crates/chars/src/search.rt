@@ -14,11 +14,38 @@ pub enum Alphabet {
     PathEnd,
 }
 
+// An index up to which no b stands from index `from` on, by four bytes at a time.
+fn skip_fours(s: &[u8], from: usize, b: u8) -> usize
+    ensures { λ r. ⌜ r + indexOf b (drop r (now (s .entry))) ≡ from + indexOf b (drop from (now (s .entry))) ⌝ }
+{
+    let n = s.len();
+    if n < from {
+        return from;
+    }
+    let mut i = from;
+    while 4 <= n - i {
+        if s[i] == b {
+            return i;
+        }
+        if s[i + 1] == b {
+            return i + 1;
+        }
+        if s[i + 2] == b {
+            return i + 2;
+        }
+        if s[i + 3] == b {
+            return i + 3;
+        }
+        i += 4;
+    }
+    i
+}
+
 // The index of the first b from index `from` on, or the length.
 pub fn find(s: &[u8], from: usize, b: u8) -> usize
     ensures { λ r. ⌜ r ≡ from + indexOf b (drop from (now (s .entry))) ⌝ }
 {
-    let mut i = from;
+    let mut i = skip_fours(s, from, b);
     while i < s.len() {
         if s[i] == b {
             return i;

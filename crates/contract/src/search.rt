@@ -8,7 +8,7 @@ use crate::RELATIONSHIPS;
 use base::numbers::smaller;
 use chars::folded::folded_text;
 use chars::folded::order_past;
-use chars::folded::shared_start;
+use chars::folded::shared_first;
 use chars::folding::Order;
 use chars::folding::compare;
 use store::header::count;
@@ -108,7 +108,7 @@ fn stands(pkg: &[u8], i: usize, w: SearchKey, f: &[u8; 256], id: &[u8], from: us
     }
     let held = field(pkg, i, 0);
     let text = folded_text(f, w.at, w.length);
-    let common = shared_start(held, text, from);
+    let common = shared_first(held, text, from);
     match order_past(held, text, common) {
         Order::Less => Standing {
             order: Order::Less,

@@ -1,15 +1,27 @@
-use mathlib.Core.Path.{sym, _∙_}
-use Rattle.chars.proofs.FoldedNames.{folded-eight-same}
+use Rattle.chars.specs.FoldedNames.{heldEight}
 use borrow.Author.Needs.{needs}
 use Rattle.chars.proofs.folded.folds_to_eight.Statement.{statement}
 use Rattle.chars.proofs.folded.folds_to_eight.Tie as tie
 
 returns : tie.Need-returns
-returns c =
-    let at-is-same-eight = c .before in
-    let at-pre = at-is-same-eight .before .before .before in
-    folded-eight-same _ _ _ (at-pre .pre .2) (sym (at-is-same-eight .is-same-eight .ensures) ∙ c .if1 .taken)
+unfolding heldEight
+returns c = rw (← c .before .is-same-eight .ensures, c .if1 .taken)
+
+returns-2 : tie.Need-returns-2
+unfolding heldEight
+returns-2 c =
+    let at-if2 = c .before in
+    let at-if1 = at-if2 .before in
+    rw (← at-if1 .before .is-same-eight .ensures, at-if1 .if1 .left, at-if2 .if2 .taken) (c .is-folded-eight .ensures)
+
+returns-3 : tie.Need-returns-3
+unfolding heldEight
+returns-3 c =
+    let at-if1 = c .before in
+    rw (← at-if1 .before .is-same-eight .ensures, at-if1 .if1 .left, c .if2 .left)
 
 pub folds-to-eight-spec : {M : Type 1} → statement M
 folds-to-eight-spec =
-    tie.close (tie.spec (λ c κs. search needs) returns (λ c κs. search needs) (λ c. search needs))
+    tie.close
+    (tie.spec
+    (λ c κs. search needs) returns (λ c κs. search needs) returns-2 returns-3)

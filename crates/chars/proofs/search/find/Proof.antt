@@ -1,7 +1,8 @@
-use mathlib.Core.Path.{_≡_, refl, sym, _∙_}
+use mathlib.Core.Path.{_≡_, sym, _∙_}
 use Prim.Native.Nat.{_+_, _-_}
 use native.Mathlib.Omega.{arith}
 use lib.ListN.{length, drop}
+use borrow.Author.Needs.{needs}
 use Rattle.chars.specs.Lists.{indexOf}
 use Rattle.chars.proofs.Searches.{index-hit, index-miss, index-end}
 use Rattle.chars.proofs.search.find.Statement.{statement}
@@ -32,4 +33,4 @@ pub find-spec : {M : Type 1} → statement M
 find-spec =
     tie.close
     (tie.spec
-    Inv-loop μ-loop (λ c. refl) (λ c. omega arith) returns (λ c. omega arith) (λ c. omega arith) loop-again returns-2)
+    Inv-loop μ-loop (λ c κs. search needs) (λ c. sym (c .skip-fours .ensures)) (λ c. omega arith) returns (λ c. omega arith) (λ c. omega arith) loop-again returns-2)
