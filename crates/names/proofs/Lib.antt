@@ -10,3 +10,4 @@ pub mod NameEnds
 pub mod Lengths
 pub mod FoldedNames
 pub mod MediaTypes
+pub mod PlainBytes

@@ -1,18 +1,21 @@
 -- A suffix and an item name, from what the judges of their parts ensure.
 -- Assumes nothing.
-use mathlib.Core.Path.{_≡_, refl, _∙_}
-use mathlib.Core.Bool.{Bool, true, false, _&&_, _||_}
+use mathlib.Core.Path.{_≡_, refl, sym, ap, _∙_}
+use mathlib.Core.Bool.{Bool, true, false, not, _&&_, _||_, false≢true}
 use mathlib.Core.List.{List}
-use Prim.Native.Nat.{ℕ, _+_, _-_, _≤_}
+use Prim.Native.Nat.{ℕ, _+_, _-_, _≤_, _<_}
 use native.Mathlib.Omega.{arith}
+use lib.Dec.{eqb}
 use lib.ListN.{length, take, drop, getD}
 use lib.Seq.{length-take-le}
-use borrow.Author.Tests.{eq-eqb, ne-eqb}
+use borrow.Author.Tests.{eq-eqb, ne-eqb, eqb-true, eqb-false}
 use Rattle.chars.specs.Bytes.{ascii, slash, openBracket, closeBracket}
-use Rattle.chars.specs.Lists.{indexOf, afterLast}
+use Rattle.chars.specs.Lists.{every, indexOf, afterLast}
 use Rattle.chars.specs.Folding.{equivalent}
+use Rattle.base.proofs.Bools.{not-passing}
 use Rattle.base.proofs.Lists.{take-rest}
-use Rattle.chars.proofs.Searches.{index-le, index-found, last-le}
+use Rattle.chars.proofs.Searches.{index-le, index-found, last-le, last-pos, every-take, every-drop, every-getD}
+use Rattle.chars.proofs.UnitBytes.{but}
 use Rattle.names.specs.Names.{partName}
 use Rattle.names.specs.Numbers.{value, numeral}
 use Rattle.names.specs.Reading.{readNumber}
@@ -21,6 +24,7 @@ use Rattle.names.specs.declared.items.Suffix.{Suffix}
 use Rattle.names.specs.declared.items.Suffix.the-variants.{Whole, Piece}
 use Rattle.names.specs.declared.items.ItemName.the-variants.{Refused}
 use Rattle.names.proofs.Digits.{read-value}
+use Rattle.names.proofs.NameBytes.{name-slash}
 
 module _ (t : List ℕ) (e : ℕ) (here : e ≡ 0 + indexOf closeBracket t) where
   at : indexOf closeBracket t ≡ e
@@ -70,3 +74,21 @@ module _ (s : List ℕ) (p : ℕ) (here : p ≡ afterLast slash s) where
       item-piece j k l q g =
           let n : length (take (p - 1) s) ≡ p - 1 = length-take-le (p - 1) s (omega (arith, last-le slash s)) in
           piece ∙ rw (q, g, n)
+
+-- a name without brackets has no suffix
+pub item-plain : (s : List ℕ) → every (but openBracket) s ≡ true → itemName s ≡ named (partName s) (length s) Whole
+item-plain s e = go (eqb (afterLast slash s) 0) refl
+  where
+    p : ℕ
+    p = afterLast slash s
+
+    x : ℕ
+    x = getD (take (length s - p) (drop p s)) 0 0
+
+    go : (q : Bool) → eqb (afterLast slash s) 0 ≡ q → itemName s ≡ named (partName s) (length s) Whole
+    go true z =
+        let n : partName s ≡ false = not-passing (partName s) (λ h. let l : 0 < p = last-pos slash s (omega arith) (name-slash s h) in omega (arith, eqb-true p 0 z)) in
+        item-none s p refl (eqb-true p 0 z) ∙ rw n
+    go false z =
+        let f : but openBracket x ≡ true = every-getD (but openBracket) refl (take (length s - p) (drop p s)) 0 (every-take (but openBracket) (length s - p) (drop p s) (every-drop (but openBracket) p s e)) in
+        item-whole s p refl (eqb-false p 0 z) x refl (partName s) (λ h. false≢true (sym (ap not (eq-eqb x openBracket h)) ∙ f)) refl

@@ -5,3 +5,4 @@ pub mod Demand
 pub mod Iris
 pub mod Numbers
 pub mod Reading
+pub mod PlainBytes

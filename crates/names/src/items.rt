@@ -1,5 +1,6 @@
 // Item names: a whole item, or a piece.
-use crate::parts::is_part_name;
+use crate::parts::is_name;
+use crate::plain::plain_start;
 use crate::table::is_digit;
 use crate::table::table;
 use base::bytes::byte_at;
@@ -7,12 +8,17 @@ use chars::folding::is_equivalent;
 use chars::search::find;
 use chars::search::find_past;
 ghost use mathlib.Core.Path.{_≡_};
+ghost use mathlib.Core.Bool.{true};
+ghost use lib.ListN.{length, take};
 ghost use Rattle.chars.specs.Bytes.{ascii};
 ghost use Rattle.chars.specs.Classes.{classes};
 ghost use Rattle.chars.specs.Folding.{equivalent};
+ghost use Rattle.chars.specs.Lists.{every};
 ghost use Rattle.names.specs.Numbers.{numeral};
 ghost use Rattle.names.specs.Reading.{readNumber};
-ghost use Rattle.names.specs.Items.{suffix, itemName, itemRefusal};
+ghost use Rattle.names.specs.Items.{suffix, named, itemName, itemRefusal};
+ghost use Rattle.names.specs.Names.{partName};
+ghost use Rattle.names.specs.PlainBytes.{plain};
 
 // A whole item has no suffix; a piece has its number, and whether it is marked as the last.
 pub enum Suffix {
@@ -84,9 +90,25 @@ fn read_suffix(s: &[u8]) -> Suffix
     Suffix::Whole
 }
 
+// The name of a whole item, whose first `known` bytes are plain.
+fn whole(s: &[u8], known: usize) -> ItemName
+    requires { ⌜ every plain (take known (now s)) ≡ true ⌝ }
+    ensures { λ r. ⌜ r ≡ named (partName (now (s .entry))) (length (now (s .entry))) Suffix.Whole ⌝ }
+{
+    if is_name(s, known) {
+        return ItemName::Named(s.len(), Suffix::Whole);
+    }
+    ItemName::Refused(4)
+}
+
+// Where all bytes are plain, none is a bracket, and the name has no suffix.
 pub fn take_apart(s: &[u8]) -> ItemName
     ensures { λ r. ⌜ r ≡ itemName (now (s .entry)) ⌝ }
 {
+    let plain = plain_start(s);
+    if s.len() <= plain {
+        return whole(s, plain);
+    }
     let p = find_past(s, b'/');
     if p == 0 {
         return ItemName::Refused(4);
@@ -97,15 +119,12 @@ pub fn take_apart(s: &[u8]) -> ItemName
             return ItemName::Refused(6);
         };
         let n = p - 1;
-        if is_part_name(&s[..n]) {
+        if is_name(&s[..n], plain) {
             return ItemName::Named(n, Suffix::Piece(k, l));
         }
         return ItemName::Refused(4);
     }
-    if is_part_name(s) {
-        return ItemName::Named(s.len(), Suffix::Whole);
-    }
-    ItemName::Refused(4)
+    whole(s, plain)
 }
 
 // The number of the refusal, 0 for none.

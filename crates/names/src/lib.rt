@@ -3,6 +3,7 @@ pub mod iris;
 pub mod items;
 pub mod members;
 pub mod parts;
+mod plain;
 pub mod table;
 pub mod types;
 mod units;

@@ -1,5 +1,7 @@
 // Part names.
-use crate::table::table;
+use crate::plain::plain_from;
+use crate::plain::plain_start;
+use crate::table::lay_table;
 use crate::units::all_units;
 use base::bytes::byte_at;
 use chars::folding::ends_in;
@@ -8,28 +10,33 @@ use chars::search::find;
 use chars::search::find_past;
 use chars::units::Grammar;
 ghost use mathlib.Core.Path.{_≡_};
-ghost use lib.ListN.{drop};
-ghost use Rattle.chars.specs.Bytes.{ascii, dot, slash};
-ghost use Rattle.chars.specs.Classes.{classes};
-ghost use Rattle.chars.specs.Lists.{split, all, afterLast};
+ghost use mathlib.Core.Bool.{true};
+ghost use lib.ListN.{take, drop};
+ghost use Rattle.chars.specs.Bytes.{ascii, dot, slash, segmentByte};
+ghost use Rattle.chars.specs.Lists.{every, split, all, afterLast};
 ghost use Rattle.chars.specs.Folding.{equivalent, endsIn};
 ghost use Rattle.names.specs.Names.{segment, partName, reserved, extensionAt};
+ghost use Rattle.names.specs.PlainBytes.{plain, Known};
 
-// A segment, from its first byte to the next slash.
-fn is_segment(t: &[u8; 256], s: &[u8]) -> bool
-    requires { ⌜ now t ≡ classes ⌝ }
+// A segment, from its first byte to the next slash. Its first `known` bytes stand for themselves, and are not looked at again.
+fn is_segment(t: &[u8; 256], s: &[u8], known: usize) -> bool
+    requires { ⌜ Known segmentByte (now t) (now s) known ⌝ }
     ensures { λ r. ⌜ r ≡ segment (now (s .entry)) ⌝ }
 {
     let n = s.len();
     if n == 0 {
         return false;
     }
-    (byte_at(s, n - 1) != b'.') & all_units(t, Grammar::Segment, s)
+    let no_dot = byte_at(s, n - 1) != b'.';
+    if n <= known {
+        return no_dot;
+    }
+    no_dot & all_units(t, Grammar::Segment, &s[known..])
 }
 
-// The stretches between slashes, from index `from` on: each is handed to the segment judge.
-fn all_segments(t: &[u8; 256], s: &[u8], from: usize) -> bool
-    requires { ⌜ now t ≡ classes ⌝ }
+// The stretches between slashes, from index `from` on: each is handed to the segment judge. The first `known` bytes of s are plain.
+fn all_segments(t: &[u8; 256], s: &[u8], from: usize, known: usize) -> bool
+    requires { ⌜ Known plain (now t) (now s) known ⌝ }
     ensures { λ r. ⌜ r ≡ all segment (split slash (drop from (now (s .entry)))) ⌝ }
 {
     let n = s.len();
@@ -39,7 +46,7 @@ fn all_segments(t: &[u8; 256], s: &[u8], from: usize) -> bool
     let mut i = from;
     loop {
         let e = find(s, i, b'/');
-        let ok = is_segment(t, &s[i..e]);
+        let ok = is_segment(t, &s[i..e], plain_from(known, i));
         if ok {
             if e == n {
                 return true;
@@ -51,7 +58,9 @@ fn all_segments(t: &[u8; 256], s: &[u8], from: usize) -> bool
     }
 }
 
-pub fn is_part_name(s: &[u8]) -> bool
+// A part name whose first `known` bytes are plain. Where all are, no class is looked up, and the table is not laid out.
+pub(crate) fn is_name(s: &[u8], known: usize) -> bool
+    requires { ⌜ every plain (take known (now s)) ≡ true ⌝ }
     ensures { λ r. ⌜ r ≡ partName (now (s .entry)) ⌝ }
 {
     let n = s.len();
@@ -62,10 +71,17 @@ pub fn is_part_name(s: &[u8]) -> bool
         return false;
     }
     if byte_at(s, 0) == b'/' {
-        let t = table();
-        return all_segments(&t, s, 1);
+        let mut t = [0; 256];
+        lay_table(&mut t, known < n);
+        return all_segments(&t, s, 1, known);
     }
     false
+}
+
+pub fn is_part_name(s: &[u8]) -> bool
+    ensures { λ r. ⌜ r ≡ partName (now (s .entry)) ⌝ }
+{
+    is_name(s, plain_start(s))
 }
 
 fn is_rels(s: &[u8]) -> bool

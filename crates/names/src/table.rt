@@ -2,6 +2,7 @@
 ghost use mathlib.Core.Path.{_≡_};
 ghost use Rattle.chars.specs.Bytes.{letter, digit, hexDigit};
 ghost use Rattle.chars.specs.Classes.{classes, Classed};
+ghost use Rattle.names.specs.PlainBytes.{Laid};
 
 // The numbers of the classes that are asked for. 8 are ( ) , ; = @, 13 is %, 15 other ASCII, 20 none of all these.
 pub(crate) const DIGIT: u8 = 0;
@@ -68,6 +69,15 @@ pub fn table() -> [u8; 256]
     ensures { λ r. ⌜ r ≡ classes ⌝ }
 {
     CLASS
+}
+
+// Lays the table out in an array, where it is wanted.
+pub(crate) fn lay_table(t: &mut [u8; 256], wanted: bool)
+    ensures { λ _. ⌜ Laid wanted (now (t .exit)) ⌝ }
+{
+    if wanted {
+        *t = table();
+    }
 }
 
 pub(crate) fn class(t: &[u8; 256], b: u8) -> u8
