@@ -1,6 +1,7 @@
 //! Compares the archive with the reference on names and other fields.
 
 mod bytes;
+mod eights;
 mod lengths;
 mod order;
 mod parameters;
