@@ -1,12 +1,12 @@
 -- Parts of lists.
 -- Assumes nothing.
 use Prim.Native.Nat.{ℕ, zero, suc, _-_, _≤_}
-use mathlib.Core.Path.{_≡_, refl, ap, _∙_}
+use mathlib.Core.Path.{_≡_, refl, sym, ap, _∙_}
 use mathlib.Core.List.{List, [], _∷_, _++_}
 use native.Mathlib.Nat.{add-zero}
 use native.Mathlib.Omega.{arith}
 use lib.ListN.{length, getD, take, drop, length-drop}
-use lib.Seq.{take-all, getD-drop}
+use lib.Seq.{take-all, take-nil, getD-drop}
 
 -- the part s[i..] of a slice
 pub take-rest : (s : List ℕ) (i : ℕ) → take (length s - i) (drop i s) ≡ drop i s
@@ -24,6 +24,13 @@ length-take-few (suc n) (x ∷ l) = omega (arith, length-take-few n l)
 
 pub length-part-le : (n i : ℕ) (s : List ℕ) → length (take n (drop i s)) ≤ length s
 length-part-le n i s = omega (arith, length-take-le-length n (drop i s), length-drop i s)
+
+-- the beginning of a rest is the rest of a beginning
+pub drop-take : (i n : ℕ) (l : List ℕ) → drop i (take n l) ≡ take (n - i) (drop i l)
+drop-take zero n l = let e : n - 0 ≡ n = omega arith in rw e
+drop-take (suc i) zero l = let e : 0 - suc i ≡ 0 = omega arith in rw e
+drop-take (suc i) (suc n) [] = sym (take-nil (suc n - suc i))
+drop-take (suc i) (suc n) (x ∷ l) = let e : suc n - suc i ≡ n - i = omega arith in rw e (drop-take i n l)
 
 -- what follows x in x ++ z
 pub getD-seam : (x z : List ℕ) → getD (x ++ z) (length x) 0 ≡ getD z 0 0

@@ -1,18 +1,18 @@
 -- A wanted name, folded once: the array that holds it, and eight bytes compared with eight of it.
 -- Assumes nothing.
-use Prim.Native.Nat.{ℕ, zero, suc, _+_, _-_, _≤_, _<_, min}
+use Prim.Native.Nat.{ℕ, _+_, _-_, _≤_, _<_, min}
 use mathlib.Core.Path.{_≡_, refl, ap, sym, _∙_, subst}
 use mathlib.Core.Bool.{Bool, true, false, _&&_, _||_}
 use mathlib.Core.List.{List, [], _∷_, map-append}
-use native.Mathlib.Nat.{sub-zero, zero-sub, suc-sub-suc}
 use native.Mathlib.Numerals.{add-one}
 use native.Mathlib.Omega.{arith, min-cases}
 use lib.Dec.{eqb}
 use lib.ListN.{length, getD, take, drop, set, length-map}
-use lib.Seq.{take-suc-set, take-suc, take-length, take-all, take-nil}
+use lib.Seq.{take-suc-set, take-suc, take-length, take-all}
 use borrow.Author.Tests.{eqb-true, eqb-false, eq-eqb}
 use Rattle.base.specs.Buffer.{part}
 use Rattle.base.proofs.Bools.{and-right, not-passing}
+use Rattle.base.proofs.Lists.{drop-take}
 use Rattle.chars.specs.Lists.{same}
 use Rattle.chars.specs.Folding.{lower, fold, equivalent}
 use Rattle.chars.specs.Comparing.{sameEight}
@@ -37,12 +37,6 @@ filled f s i l m n e =
     record { fits = l; is = subst (λ (j : ℕ). take j f ≡ fold (take j s)) k e ∙ ap fold (take-length s) }
 
 -- what is read off it
-drop-take : (i n : ℕ) (l : List ℕ) → take (n - i) (drop i l) ≡ drop i (take n l)
-drop-take zero n l = ap (λ (k : ℕ). take k l) (sub-zero n)
-drop-take (suc i) zero l = ap (λ (k : ℕ). take k (drop (suc i) l)) (zero-sub (suc i))
-drop-take (suc i) (suc n) [] = take-nil (suc n - suc i)
-drop-take (suc i) (suc n) (x ∷ l) = ap (λ (k : ℕ). take k (drop i l)) (suc-sub-suc n i) ∙ drop-take i n l
-
 module _ (f s : List ℕ) (h : HoldsFolding f s) where
   pub folded-whole : part 0 (length s) f ≡ fold s
   unfolding part
@@ -51,7 +45,7 @@ module _ (f s : List ℕ) (h : HoldsFolding f s) where
   -- the rest of the name
   pub folded-rest : (i : ℕ) → part i (length s - i) f ≡ fold (drop i s)
   unfolding part
-  folded-rest i = drop-take i (length s) f ∙ ap (drop i) (h .is) ∙ drop-map lower i s
+  folded-rest i = sym (drop-take i (length s) f) ∙ ap (drop i) (h .is) ∙ drop-map lower i s
 
 -- what is a folding is folded
 pub folded-is : (x s : List ℕ) → x ≡ fold s → fold x ≡ x

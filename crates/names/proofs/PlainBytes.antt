@@ -11,11 +11,11 @@ use lib.Seq.{take-add, take-take, take-all, length-take-le}
 use borrow.Author.Tests.{leb-true, eqb-true, ne-eqb}
 use Rattle.chars.specs.Bytes.{slash, dot, openBracket, within, letter, digit, unreserved, segmentByte, underscore}
 use Rattle.chars.specs.Classes.{classes}
-use Rattle.chars.specs.Lists.{isEmpty, every, indexOf, lastByte, afterLast, tiled}
+use Rattle.chars.specs.Lists.{every, indexOf, lastByte, tiled}
 use Rattle.chars.specs.Characters.{unit}
 use Rattle.chars.specs.declared.units.Grammar.the-variants.{Segment}
 use Rattle.base.proofs.Bools.{and-right, and-right-true}
-use Rattle.base.proofs.Lists.{take-rest}
+use Rattle.base.proofs.Lists.{take-rest, drop-take}
 use Rattle.chars.proofs.Tables.{both, entries, at}
 use Rattle.chars.proofs.FirstBytes.{index-every}
 use Rattle.chars.proofs.Searches.{every-append, every-imp, every-both, every-take, every-take-take, every-drop}
@@ -24,7 +24,6 @@ use Rattle.chars.proofs.Tiles.{tiled-end}
 use Rattle.chars.proofs.UnitBytes.{but, class-but, tiled-singles}
 use Rattle.names.specs.Names.{segment}
 use Rattle.names.specs.PlainBytes.{plain, Known}
-use Rattle.names.proofs.Reserved.{drop-take}
 
 -- SO MANY BYTES
 pub plain-none : every plain [] ≡ true
@@ -37,7 +36,7 @@ plain-more s i at h e f =
     let g : every plain (take at s) ≡ true = ap (every plain) (sym (take-take at i s h)) ∙ every-take plain at (take i s) e in
     rw (take-add at 8 s) (every-append plain (take at s) (take 8 (drop at s)) g f)
 
--- a plain byte of a stretch between slashes stands for itself: one test, computed at each of the 256 bytes
+-- a plain byte of a stretch between slashes stands for itself: one test, computed at each of the 256 places of the table
 agree : ℕ → ℕ → Bool
 agree b k = not (plain b) || eqb b slash || segmentByte b
 

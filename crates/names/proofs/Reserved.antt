@@ -1,24 +1,18 @@
 -- A reserved name, from what the judges of its last two segments ensure.
 -- Assumes nothing.
-use mathlib.Core.Path.{_≡_, sym}
+use mathlib.Core.Path.{_≡_}
 use mathlib.Core.Bool.{Bool, false, _&&_}
-use mathlib.Core.List.{List, [], _∷_}
-use Prim.Native.Nat.{ℕ, zero, suc, _-_, _≤_}
+use mathlib.Core.List.{List}
+use Prim.Native.Nat.{ℕ, _-_, _≤_}
 use native.Mathlib.Omega.{arith}
 use lib.ListN.{length, take, drop}
-use lib.Seq.{take-nil, length-take-le}
+use lib.Seq.{length-take-le}
 use Rattle.chars.specs.Bytes.{ascii, slash}
 use Rattle.chars.specs.Lists.{same, afterLast}
 use Rattle.chars.specs.Folding.{equivalent, endsIn}
-use Rattle.base.proofs.Lists.{take-rest}
+use Rattle.base.proofs.Lists.{take-rest, drop-take}
 use Rattle.chars.proofs.Searches.{last-le}
 use Rattle.names.specs.Names.{reserved}
-
-pub drop-take : (q n : ℕ) (s : List ℕ) → drop q (take n s) ≡ take (n - q) (drop q s)
-drop-take zero n s = let e : n - 0 ≡ n = omega arith in rw e
-drop-take (suc q) zero s = let e : 0 - suc q ≡ 0 = omega arith in rw e
-drop-take (suc q) (suc n) [] = sym (take-nil (suc n - suc q))
-drop-take (suc q) (suc n) (x ∷ s) = let e : suc n - suc q ≡ n - q = omega arith in rw e (drop-take q n s)
 
 module _ (s : List ℕ) (p : ℕ) (here : p ≡ afterLast slash s) where
   pub reserved-none : p ≡ 0 → reserved s ≡ false

@@ -12,8 +12,7 @@ use borrow.Author.Tests.{not-true, not-false, eq-eqb, ne-eqb, lt-leb, le-leb}
 use Rattle.chars.specs.Bytes.{ascii}
 use Rattle.chars.specs.Folding.{equivalent, order}
 use Rattle.chars.specs.Lists.{isEmpty, same}
-use Rattle.base.proofs.Lists.{take-rest}
-use Rattle.names.proofs.Reserved.{drop-take}
+use Rattle.base.proofs.Lists.{take-rest, drop-take}
 use Rattle.iri.specs.Components.{authorityOf, pathOf, authorityLength, afterScheme}
 use Rattle.iri.specs.Scratch.{SplitAt}
 use Rattle.pack.specs.Scratch.{AuthorityAt, PlacedAs}
