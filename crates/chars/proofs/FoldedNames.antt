@@ -2,21 +2,21 @@
 -- Assumes nothing.
 use Prim.Native.Nat.{ℕ, _+_, _-_, _≤_, _<_, min}
 use mathlib.Core.Path.{_≡_, refl, ap, sym, _∙_, subst}
-use mathlib.Core.Bool.{Bool, true, false, _&&_, _||_}
+use mathlib.Core.Bool.{Bool, true, false, _&&_, _||_, cond}
 use mathlib.Core.List.{List, [], _∷_, map-append}
 use native.Mathlib.Numerals.{add-one}
 use native.Mathlib.Omega.{arith, min-cases}
-use lib.Dec.{eqb}
+use lib.Dec.{eqb, ltb}
 use lib.ListN.{length, getD, take, drop, set, length-map}
 use lib.Seq.{take-suc-set, take-suc, take-length, take-all}
-use borrow.Author.Tests.{eqb-true, eqb-false, eq-eqb}
+use borrow.Author.Tests.{eqb-true, eqb-false, eq-eqb, ltb-true, ltb-false}
 use Rattle.base.specs.Buffer.{part}
 use Rattle.base.proofs.Bools.{and-right, not-passing}
 use Rattle.base.proofs.Lists.{drop-take}
 use Rattle.chars.specs.Lists.{same}
-use Rattle.chars.specs.Folding.{lower, fold, equivalent}
+use Rattle.chars.specs.Folding.{lower, fold, equivalent, order}
 use Rattle.chars.specs.Comparing.{sameEight}
-use Rattle.chars.specs.FoldedNames.{foldedSize, HoldsFolding, foldedEight, heldEight, SharedSome, Shared, OrderPast}
+use Rattle.chars.specs.FoldedNames.{foldedSize, HoldsFolding, foldedEight, heldEight, common, SharedSome, Shared, OrderPast, Compared}
 use Rattle.chars.specs.declared.folding.Order.{Order}
 use Rattle.chars.specs.declared.folding.Order.the-variants.{Less, Equal, Greater}
 use Rattle.chars.proofs.Equivalence.{same-eq, same-refl}
@@ -146,12 +146,18 @@ module _ (a q : List ℕ) (c : ℕ) where
   pub order-longer : c < length a → length q ≤ c → OrderPast a q c Greater
   order-longer h k = record { is = λ e. past-longer (fold a) q c e (omega (arith, length-map a lower)) k }
 
-  module _ (h : c < length a) (k : c < length q) (x : ℕ) (ex : x ≡ lower (getD a c 0)) where
-    pub order-less : x < getD q c 0 → OrderPast a q c Less
-    order-less l = record { is = λ e. past-less (fold a) q c e (omega (arith, length-map a lower)) k (omega (arith, getD-fold a c)) }
+  pub order-bytes : c < length a → c < length q → (o : Order) → o ≡ cond (ltb (lower (getD a c 0)) (getD q c 0)) Less Greater → OrderPast a q c o
+  order-bytes h k o eo = record { is = λ e. eo ∙ go e (ltb (lower (getD a c 0)) (getD q c 0)) refl }
+    where
+      go : c ≡ common (fold a) q → (z : Bool) → ltb (lower (getD a c 0)) (getD q c 0) ≡ z → cond z Less Greater ≡ order (fold a) q
+      go e true t = past-less (fold a) q c e (omega (arith, length-map a lower)) k (omega (arith, getD-fold a c, ltb-true (lower (getD a c 0)) (getD q c 0) t))
+      go e false t = past-greater (fold a) q c e (omega (arith, length-map a lower)) k (omega (arith, getD-fold a c, ltb-false (lower (getD a c 0)) (getD q c 0) t))
 
-    pub order-greater : getD q c 0 ≤ x → OrderPast a q c Greater
-    order-greater l = record { is = λ e. past-greater (fold a) q c e (omega (arith, length-map a lower)) k (omega (arith, getD-fold a c)) }
+-- c bytes at least are the same, and the next ones are not
+pub compared-bytes : (a q : List ℕ) (from c : ℕ) → SharedSome a q from c → c < length a → c < length q →
+    (z : Bool) → z ≡ eqb (lower (getD a c 0)) (getD q c 0) → z ≡ false →
+    (o : Order) → o ≡ cond (ltb (lower (getD a c 0)) (getD q c 0)) Less Greater → Compared a q from o c
+compared-bytes a q from c s h k z ez e o eo = record { shared = shared-stop a q from c s h k z ez e; past = order-bytes a q c h k o eo }
 
 -- ALL OF IT
 pub folds-unlike : (a q : List ℕ) → (length a ≡ length q → ⊥) → false ≡ same (fold a) q

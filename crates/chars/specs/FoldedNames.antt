@@ -47,3 +47,8 @@ pub record Shared (a q : List ℕ) (i c : ℕ) : Type 0 where
 -- o tells how a, folded, stands to q, if c bytes at the beginning are the same, and no more
 pub record OrderPast (a q : List ℕ) (c : ℕ) (o : Order) : Type 0 where
   pub is : c ≡ common (fold a) q → o ≡ order (fold a) q
+
+-- both: o is the order, if the first i bytes are the same, and c bytes are
+pub record Compared (a q : List ℕ) (i : ℕ) (o : Order) (c : ℕ) : Type 0 where
+  pub shared : Shared a q i c
+  pub past : OrderPast a q c o

@@ -5,12 +5,14 @@ use crate::letters::to_lower;
 use crate::starts::is_same_eight;
 use base::numbers::smaller;
 ghost use mathlib.Core.Path.{_≡_};
+ghost use mathlib.Core.Bool.{cond};
 ghost use Prim.Native.Nat.{_+_, _≤_};
+ghost use lib.Dec.{ltb};
 ghost use lib.ListN.{length};
 ghost use Rattle.base.specs.Buffer.{part};
 ghost use Rattle.chars.specs.Lists.{same};
-ghost use Rattle.chars.specs.Folding.{fold};
-ghost use Rattle.chars.specs.FoldedNames.{foldedSize, HoldsFolding, foldedEight, heldEight, SharedSome, Shared, OrderPast};
+ghost use Rattle.chars.specs.Folding.{lower, fold};
+ghost use Rattle.chars.specs.FoldedNames.{foldedSize, HoldsFolding, foldedEight, heldEight, SharedSome, Shared, OrderPast, Compared};
 
 // How many bytes the array has that a wanted name is folded into.
 pub const FOLDED_SIZE: usize = 256;
@@ -125,22 +127,18 @@ fn same_bytes(a: &[u8], q: &[u8], from: usize) -> usize
     i
 }
 
-// What shared_start tells, sooner where a has no capitals.
-pub fn shared_first(a: &[u8], q: &[u8], from: usize) -> usize
-    requires { ⌜ fold (now q) ≡ now q ⌝ }
-    ensures { λ r. ⌜ Shared (now (a .entry)) (now (q .entry)) from r ⌝ }
+// The order of two bytes of which the first, folded, is not the second.
+fn order_bytes(x: u8, y: u8) -> Order
+    ensures { λ r. ⌜ r ≡ cond (ltb (lower x) y) Order.Less Order.Greater ⌝ }
 {
-    let c = same_bytes(a, q, from);
-    if c < smaller(a.len(), q.len()) {
-        if folds_to_byte(a[c], q[c]) {
-            return shared_start(a, q, c);
-        }
+    if to_lower(x) < y {
+        return Order::Less;
     }
-    c
+    Order::Greater
 }
 
 // How a, folded, stands to q, where c bytes at their beginning are the same, and no more.
-pub fn order_past(a: &[u8], q: &[u8], c: usize) -> Order
+fn order_past(a: &[u8], q: &[u8], c: usize) -> Order
     ensures { λ r. ⌜ OrderPast (now (a .entry)) (now (q .entry)) c r ⌝ }
 {
     if a.len() <= c {
@@ -152,10 +150,46 @@ pub fn order_past(a: &[u8], q: &[u8], c: usize) -> Order
     if q.len() <= c {
         return Order::Greater;
     }
-    if to_lower(a[c]) < q[c] {
-        return Order::Less;
+    order_bytes(a[c], q[c])
+}
+
+// How a held name stands to a wanted one, and how many bytes at their beginning are the same.
+pub struct Comparison {
+    pub order: Order,
+    pub common: usize,
+}
+
+// How a, folded, stands to q, if the first `from` bytes are the same.
+fn compare_on(a: &[u8], q: &[u8], from: usize) -> Comparison
+    requires { ⌜ fold (now q) ≡ now q ⌝ }
+    ensures { λ r. ⌜ Compared (now (a .entry)) (now (q .entry)) from (r .order) (r .common) ⌝ }
+{
+    let common = shared_start(a, q, from);
+    Comparison {
+        order: order_past(a, q, common),
+        common,
     }
-    Order::Greater
+}
+
+// What compare_on tells, sooner where a has no capitals.
+pub fn compare_past(a: &[u8], q: &[u8], from: usize) -> Comparison
+    requires { ⌜ fold (now q) ≡ now q ⌝ }
+    ensures { λ r. ⌜ Compared (now (a .entry)) (now (q .entry)) from (r .order) (r .common) ⌝ }
+{
+    let c = same_bytes(a, q, from);
+    if smaller(a.len(), q.len()) <= c {
+        return Comparison {
+            order: order_past(a, q, c),
+            common: c,
+        };
+    }
+    if folds_to_byte(a[c], q[c]) {
+        return compare_on(a, q, c);
+    }
+    Comparison {
+        order: order_bytes(a[c], q[c]),
+        common: c,
+    }
 }
 
 // Whether a, folded, is q.

@@ -9,7 +9,7 @@ use lib.Dec.{ltb, eqb}
 use lib.ListN.{length, getD}
 use borrow.Author.Tests.{lt-ltb, le-ltb, ltb-true, ltb-false}
 use Rattle.chars.specs.Folding.{fold, order}
-use Rattle.chars.specs.FoldedNames.{common, Shared, OrderPast}
+use Rattle.chars.specs.FoldedNames.{common, Shared, OrderPast, Compared}
 use Rattle.chars.specs.declared.folding.Order.{Order}
 use Rattle.chars.specs.declared.folding.Order.the-variants.{Less, Equal, Greater}
 use Rattle.chars.proofs.CommonStarts.{common-same, common-apart, common-between}
@@ -22,6 +22,7 @@ use Rattle.model.proofs.Places.{not-before-monotone}
 use Rattle.store.specs.Layout.{countOf}
 use Rattle.store.specs.Rows.{Row, noRow, rowAt, tagAt, rowsOf, fieldOf}
 use Rattle.store.specs.Packages.{Shape, Sound}
+use Rattle.store.specs.Places.{HeadOf}
 use Rattle.store.proofs.Headers.{rows-count, row-getD}
 use Rattle.contract.specs.Rows.{setOf, second, keyIn, rowKey}
 use Rattle.contract.specs.Searches.{Ordered, shares, Stands, Bounded, Placed, Halved, Closing}
@@ -87,10 +88,10 @@ module _ (b : List ℕ) (i set : ℕ) (q : Bytes) (t : ℕ) (id : Bytes) (u own 
   stands-greater from h = record { is = λ s l _. let e = shares-other (λ n. absurd (omega arith)) s l in (order-greater h s l, omega arith) }
 
   -- they are of one: f is the row's text, x that of the key, and c bytes of them are the same
-  module _ (n : own ≡ set) (f : Bytes) (ef : Sound b → i < countOf b → f ≡ fieldOf (rowAt b i) 0) (x : Bytes) (ex : x ≡ q) (from c : ℕ)
-      (sh : Shared f x from c) (o : Order) (eo′ : OrderPast f x c o) where
+  module _ (n : own ≡ set) (f : Bytes) (ef : Sound b → i < countOf b → f ≡ fieldOf (rowAt b i) 0) (x : Bytes) (ex : x ≡ q) (from : ℕ) (o : Order) (c : ℕ)
+      (cp : Compared f x from o c) where
     common-is : Sound b → i < countOf b → (0 < from → from < shares b i K) → c ≡ common (fold f) q
-    common-is s l h = subst (λ (y : Bytes). Shared f y from c) ex sh .is (go (ltb 0 from) refl)
+    common-is s l h = subst (λ (y : Bytes). Shared f y from c) ex (cp .shared) .is (go (ltb 0 from) refl)
       where
         go : (z : Bool) → ltb 0 from ≡ z → from ≤ common (fold f) q
         go true e = let k = h (ltb-true 0 from e) in omega (arith, shares-same n f ef s l)
@@ -102,15 +103,19 @@ module _ (b : List ℕ) (i set : ℕ) (q : Bytes) (t : ℕ) (id : Bytes) (u own 
       is = λ s l h.
           let e = common-is s l h in
           let k = shares-same n f ef s l in
-          let oe : o ≡ order (fold (fieldOf (rowAt b i) 0)) q = subst (λ (y : Bytes). OrderPast f y c o) ex eo′ .is e ∙ ap (λ (y : Bytes). order (fold y) q) (ef s l) in
+          let oe : o ≡ order (fold (fieldOf (rowAt b i) 0)) q = subst (λ (y : Bytes). OrderPast f y c o) ex (cp .past) .is e ∙ ap (λ (y : Bytes). order (fold y) q) (ef s l) in
           (er ∙ ap₂ (λ (y : Order) (v : Bytes). thenBy y (order (second set u v) (second set t id))) oe (eg s l) ∙ order-same n s l, omega arith);
     }
 
     -- decided by the texts
-    pub stands-first : (r : Order) → o ≡ r → ((v : Order) → thenBy r v ≡ r) → Stands b i K from r c
+    pub stands-first : (r : Order) → o ≡ r → ((v : Order) → thenBy r v ≡ r) → Stands b i K from o c
     stands-first r e z =
         let v = order (second set u (fieldOf (rowAt b i) 1)) (second set t id) in
-        stands-same (fieldOf (rowAt b i) 1) (λ s l. refl) r (sym (z v) ∙ ap (λ (y : Order). thenBy y v) (sym e))
+        stands-same (fieldOf (rowAt b i) 1) (λ s l. refl) o (e ∙ sym (z v) ∙ ap (λ (y : Order). thenBy y v) (sym e))
+
+-- where the buffer ends before the row does, it is not sound
+pub stands-none : (b : List ℕ) (i : ℕ) (k : Key) (from t a n : ℕ) → HeadOf b i t a n → length b < a + n → Stands b i k from Less 0
+stands-none b i k from t a n h l = record { is = λ s _ _. absurd (omega (arith, h .is s .0)) }
 
 -- THE LEAST KEY OF A SET: no row of the set is before it
 least-second : (set t : ℕ) (id : Bytes) → isLess (order (second set t id) (second set 0 [])) ≡ false

@@ -6,16 +6,17 @@ use crate::OVERRIDE_TAG;
 use crate::OVERRIDES;
 use crate::RELATIONSHIPS;
 use base::numbers::smaller;
+use chars::folded::Comparison;
+use chars::folded::compare_past;
 use chars::folded::folded_text;
-use chars::folded::order_past;
-use chars::folded::shared_first;
 use chars::folding::Order;
 use chars::folding::compare;
 use store::header::count;
 use store::rows::field;
+use store::rows::head;
 use store::rows::tag;
 ghost use mathlib.Core.Path.{_≡_};
-ghost use Prim.Native.Nat.{_/_, _≤_};
+ghost use Prim.Native.Nat.{_/_, _≤_, _<_};
 ghost use mathlib.Core.List.{[], _∷_};
 ghost use Rattle.chars.specs.Folding.{order};
 ghost use Rattle.store.specs.Layout.{slotCount, countOf};
@@ -73,12 +74,6 @@ pub struct SearchKey {
     pub tag: usize,
 }
 
-// How a row stands to what is sought, and how many bytes their texts have in common at the beginning.
-struct Standing {
-    order: Order,
-    common: usize,
-}
-
 // A place among the rows: that of the key, or where it would stand.
 pub struct Place {
     pub row: usize,
@@ -86,42 +81,46 @@ pub struct Place {
 }
 
 // How row i stands to what is sought, and how many bytes at the beginning of its text it has in common with it, if they are not fewer than `from`. None in
-// another set.
-fn stands(pkg: &[u8], i: usize, w: SearchKey, f: &[u8; 256], id: &[u8], from: usize) -> Standing
+// another set, and none where a foreign buffer ends before the row does.
+fn stands(pkg: &[u8], i: usize, w: SearchKey, f: &[u8; 256], id: &[u8], from: usize) -> Comparison
+    requires { ⌜ Shape (now pkg) × (i < countOf (now pkg)) ⌝ }
     requires { ⌜ Aimed w (now f) ⌝ }
     ensures { λ r. ⌜ Stands (now (pkg .entry)) i (soughtKey w (now (f .entry)) (now (id .entry))) from (r .order) (r .common) ⌝ }
 {
-    let u = tag(pkg, i);
+    let row = head(pkg, i);
+    let u = row.tag;
     let own = set_of(u);
     let set = w.set;
     if own < set {
-        return Standing {
+        return Comparison {
             order: Order::Less,
             common: 0,
         };
     }
     if set < own {
-        return Standing {
+        return Comparison {
             order: Order::Greater,
             common: 0,
         };
     }
-    let held = field(pkg, i, 0);
-    let text = folded_text(f, w.at, w.length);
-    let common = shared_first(held, text, from);
-    match order_past(held, text, common) {
-        Order::Less => Standing {
+    let a = row.at;
+    let e = a + row.length;
+    if pkg.len() < e {
+        return Comparison {
             order: Order::Less,
-            common,
-        },
-        Order::Equal => Standing {
+            common: 0,
+        };
+    }
+    let text = folded_text(f, w.at, w.length);
+    let at = compare_past(&pkg[a..e], text, from);
+    let order = at.order;
+    match order {
+        Order::Less => at,
+        Order::Equal => Comparison {
             order: compare_second(set, u, field(pkg, i, 1), w.tag, id),
-            common,
+            common: at.common,
         },
-        Order::Greater => Standing {
-            order: Order::Greater,
-            common,
-        },
+        Order::Greater => at,
     }
 }
 
@@ -154,7 +153,7 @@ pub fn item_count(pkg: &[u8]) -> usize
 // The first row whose key is not before what is sought, by halving: no two rows have one key, so a row that has it ends the search. What the rows on
 // both sides have in common with it, all rows between them have.
 pub fn seek(pkg: &[u8], w: SearchKey, f: &[u8; 256], id: &[u8]) -> Place
-    requires { ⌜ countOf (now pkg) ≤ slotCount ⌝ }
+    requires { ⌜ Shape (now pkg) ⌝ }
     requires { ⌜ Aimed w (now f) ⌝ }
     ensures { λ r. ⌜ Placed (now (pkg .entry)) (soughtKey w (now (f .entry)) (now (id .entry))) (r .row) (r .held) ⌝ }
 {

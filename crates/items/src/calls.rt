@@ -109,7 +109,7 @@ pub fn find_item(pkg: &[u8], name: &[u8]) -> Found
     match asked(name) {
         Wanted::Refused(k) => Found::Refused(k),
         Wanted::Named(n, t) => {
-            let r = item_row(pkg, name, n, t);
+            let r = item_row(&pkg[..], name, n, t);
             if r < count(pkg) {
                 return Found::Length(field(pkg, r, 2).len());
             }
@@ -129,7 +129,7 @@ pub fn view_item<'a>(pkg: &'a [u8], name: &[u8]) -> &'a [u8]
     match asked(name) {
         Wanted::Refused(_) => &pkg[0..0],
         Wanted::Named(n, t) => {
-            let r = item_row(pkg, name, n, t);
+            let r = item_row(&pkg[..], name, n, t);
             if r < count(pkg) {
                 return field(pkg, r, 2);
             }

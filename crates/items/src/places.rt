@@ -19,7 +19,7 @@ pub fn view_place(pkg: &[u8], name: &[u8]) -> Span
     match asked(name) {
         Wanted::Refused(_) => Span { at: 0, length: 0 },
         Wanted::Named(n, t) => {
-            let r = item_row(pkg, name, n, t);
+            let r = item_row(&pkg[..], name, n, t);
             if r < count(pkg) {
                 return field_place(pkg, r, 2);
             }

@@ -82,7 +82,7 @@ pub(crate) fn item_row(pkg: &[u8], s: &[u8], n: usize, t: usize) -> usize
         length: n,
         tag: t,
     };
-    let place = seek(pkg, w, &f, b"");
+    let place = seek(&pkg[..], w, &f, b"");
     let m = count(pkg);
     let r = place.row;
     if !place.held {

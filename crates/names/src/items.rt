@@ -95,7 +95,7 @@ fn whole(s: &[u8], known: usize) -> ItemName
     requires { ⌜ every plain (take known (now s)) ≡ true ⌝ }
     ensures { λ r. ⌜ r ≡ named (partName (now (s .entry))) (length (now (s .entry))) Suffix.Whole ⌝ }
 {
-    if is_name(s, known) {
+    if is_name(&s[..], known) {
         return ItemName::Named(s.len(), Suffix::Whole);
     }
     ItemName::Refused(4)
@@ -105,7 +105,7 @@ fn whole(s: &[u8], known: usize) -> ItemName
 pub fn take_apart(s: &[u8]) -> ItemName
     ensures { λ r. ⌜ r ≡ itemName (now (s .entry)) ⌝ }
 {
-    let plain = plain_start(s);
+    let plain = plain_start(&s[..]);
     if s.len() <= plain {
         return whole(s, plain);
     }

@@ -81,7 +81,7 @@ pub(crate) fn is_name(s: &[u8], known: usize) -> bool
 pub fn is_part_name(s: &[u8]) -> bool
     ensures { λ r. ⌜ r ≡ partName (now (s .entry)) ⌝ }
 {
-    is_name(s, plain_start(s))
+    is_name(&s[..], plain_start(&s[..]))
 }
 
 fn is_rels(s: &[u8]) -> bool

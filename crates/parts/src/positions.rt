@@ -11,7 +11,8 @@ ghost use mathlib.Core.Bool.{cond};
 ghost use Prim.Native.Nat.{_≤_};
 ghost use Rattle.output.specs.Answers.{ofWritten};
 ghost use Rattle.model.specs.Calls.{Call, Print};
-ghost use Rattle.store.specs.Layout.{slotCount, countOf};
+ghost use Rattle.store.specs.Layout.{slotCount};
+ghost use Rattle.store.specs.Packages.{Shape};
 ghost use Rattle.contract.specs.Ran.{Ran};
 ghost use Rattle.parts.specs.Walks.{Walked};
 
@@ -32,7 +33,7 @@ fn one_if(b: bool) -> usize
 
 // Walks over n items, group by group, to the first row of the part at the position, or to the end.
 pub(crate) fn walk(pkg: &[u8], n: usize, position: u64) -> Stop
-    requires { ⌜ (n ≤ slotCount) × (countOf (now pkg) ≤ slotCount) ⌝ }
+    requires { ⌜ Shape (now pkg) × (n ≤ slotCount) ⌝ }
     ensures { λ r. ⌜ Walked (now (pkg .entry)) n position (r .row) (r .passed) ⌝ }
 {
     let mut row = 0;

@@ -11,7 +11,7 @@ use store::rows::field;
 use store::rows::tag;
 ghost use Prim.Native.Nat.{_+_, _≤_, _<_};
 ghost use Rattle.chars.specs.FoldedNames.{HoldsFolding};
-ghost use Rattle.store.specs.Layout.{slotCount, countOf};
+ghost use Rattle.store.specs.Layout.{slotCount};
 ghost use Rattle.store.specs.Rows.{rowAt, fieldOf};
 ghost use Rattle.store.specs.Packages.{Shape};
 ghost use Rattle.parts.specs.Runs.{Ended, EndedBehind, Judged, Grouped, PartOf};
@@ -27,7 +27,7 @@ const PAST_TAG: usize = 65534;
 
 // Where the items of the group p end, if the row before row e is one of them, by halving.
 fn end_behind(pkg: &[u8], e: usize, n: usize, f: &[u8; 256], p: &[u8]) -> usize
-    requires { ⌜ (countOf (now pkg) ≤ slotCount) × (e ≤ n) ⌝ }
+    requires { ⌜ Shape (now pkg) × (e ≤ n) ⌝ }
     requires { ⌜ HoldsFolding (now f) (now p) ⌝ }
     ensures { λ r. ⌜ EndedBehind (now (pkg .entry)) e n (now (p .entry)) r ⌝ }
 {
@@ -50,7 +50,7 @@ fn end_behind(pkg: &[u8], e: usize, n: usize, f: &[u8; 256], p: &[u8]) -> usize
 
 // Where the items of the group p that stand side by side from row i on end, before row n. Most groups have one item, or few.
 fn group_end(pkg: &[u8], i: usize, n: usize, f: &[u8; 256], p: &[u8]) -> usize
-    requires { ⌜ countOf (now pkg) ≤ slotCount ⌝ }
+    requires { ⌜ Shape (now pkg) ⌝ }
     requires { ⌜ HoldsFolding (now f) (now p) ⌝ }
     ensures { λ r. ⌜ Ended (now (pkg .entry)) i n (now (p .entry)) r ⌝ }
 {
@@ -71,7 +71,7 @@ fn group_end(pkg: &[u8], i: usize, n: usize, f: &[u8; 256], p: &[u8]) -> usize
 // Where the group of row i ends, before row n. A whole item is alone in its group. No item has a longer prefix than 255 bytes; a foreign buffer may, and
 // such a row is compared with no other.
 pub fn own_end(pkg: &[u8], i: usize, n: usize) -> usize
-    requires { ⌜ (countOf (now pkg) ≤ slotCount) × (i < n) ⌝ }
+    requires { ⌜ Shape (now pkg) × (i < n) ⌝ }
     ensures { λ r. ⌜ Ended (now (pkg .entry)) (i + 1) n (fieldOf (rowAt (now (pkg .entry)) i) 0) r ⌝ }
 {
     if tag(pkg, i) == 0 {

@@ -1,4 +1,4 @@
--- What `tag`, `field_place` and `field` return is the row's.
+-- What `tag`, `field_place`, `field` and `head` return is the row's.
 -- Assumes nothing.
 use mathlib.Core.Path.{_≡_, refl}
 use Prim.Native.Nat.{ℕ, zero, suc, _+_, _-_, _^_, _≤_, _<_}
@@ -10,7 +10,7 @@ use Rattle.store.specs.Buffer.{num4}
 use Rattle.store.specs.Layout.{heapStart, countOf, slotOf}
 use Rattle.store.specs.Rows.{Row, rowOf, rowAt, tagAt, fieldOf}
 use Rattle.store.specs.Packages.{Sound}
-use Rattle.store.specs.Places.{Spanned, FieldAt}
+use Rattle.store.specs.Places.{Spanned, FieldAt, HeadOf}
 
 pub read-tag : (b : List ℕ) (i x : ℕ) → x ≡ num4 (slotOf b i) 20 → x ≡ tagAt b i
 unfolding rowOf
@@ -66,3 +66,17 @@ unfolding part
 field-at b i j a n f =
     let e : a + n - a ≡ n = omega arith in
     rw e (simp (length-take, length-drop) (omega (arith, f .few)), simp (length-take, length-drop) (omega (arith, f .inside)), f .is)
+
+-- A ROW'S HEAD, as its slot tells it
+pub head-of : (b : List ℕ) (i t o n : ℕ) → i < countOf b → t ≡ num4 (slotOf b i) 20 → o ≡ num4 (slotOf b i) 0 → n ≡ num4 (slotOf b i) 4
+    → o < 2 ^ 32 → n < 2 ^ 32 → HeadOf b i t (heapStart + o) n
+head-of b i t o n h et eo en lo ln = record {
+  tag = read-tag b i t et;
+  low = omega arith;
+  is = λ so. (omega (arith, so .inside i h), read-0 b i 0 (part (heapStart + o) n b) so h (heapStart + o) n (omega arith) en refl (λ _. refl));
+}
+
+-- the bytes of its first field
+pub head-field : (b : List ℕ) (i t a n : ℕ) → HeadOf b i t a n → Sound b → take (a + n - a) (drop a b) ≡ fieldOf (rowAt b i) 0
+unfolding part
+head-field b i t a n h so = let e : a + n - a ≡ n = omega arith in rw e (h .is so .1)

@@ -8,7 +8,7 @@ use lib.ListN.{length, getD}
 use Rattle.base.specs.Buffer.{part, splice}
 use Rattle.store.specs.Buffer.{le4}
 use Rattle.store.specs.Layout.{headerSize, heapStart, heapSize, formatOf, capOf, countOf, usedOf, endOf, slotAt, slotOf, offOf, sizeOf}
-use Rattle.store.specs.Rows.{rowAt, rowsOf, fieldOf, replaceAt, respelled}
+use Rattle.store.specs.Rows.{rowAt, tagAt, rowsOf, fieldOf, replaceAt, respelled}
 use Rattle.store.specs.Packages.{Sound, Became, Passing, passed, Respelling}
 
 -- the m bytes from a on are the n bytes from `at` on, or none where the buffer has not so many
@@ -22,6 +22,12 @@ pub record FieldAt (b : List ℕ) (i j a n : ℕ) : Type 0 where
   pub few : n < 2 ^ 32
   pub inside : a + n ≤ length b
   pub is : Sound b → i < countOf b → part a n b ≡ fieldOf (rowAt b i) j
+
+-- t is the tag of row i, and its slot says that its first field is the n bytes from a on
+pub record HeadOf (b : List ℕ) (i t a n : ℕ) : Type 0 where
+  pub tag : t ≡ tagAt b i
+  pub low : a + n < 2 ^ 34
+  pub is : Sound b → (a + n ≤ length b) × (part a n b ≡ fieldOf (rowAt b i) 0)
 
 -- x is the end of the n rows without the one whose k bytes lie at o: e as before, or o where these were the last, or 0 where it was the only row
 pub record EndWithout (n e o k x : ℕ) : Type 0 where

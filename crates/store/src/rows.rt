@@ -30,7 +30,7 @@ ghost use lib.ListN.{length};
 ghost use Rattle.store.specs.Layout.{countOf};
 ghost use Rattle.store.specs.Rows.{rowAt, tagAt, sizeAt, fieldOf, makeRow};
 ghost use Rattle.store.specs.Packages.{Shape, Sound, Room, Inserted, Removed};
-ghost use Rattle.store.specs.Places.{Spanned, FieldAt};
+ghost use Rattle.store.specs.Places.{Spanned, FieldAt, HeadOf};
 
 // The tag of row i: 0 where the buffer has no such row.
 pub fn tag(pkg: &[u8], i: usize) -> usize
@@ -112,6 +112,25 @@ pub fn field(pkg: &[u8], i: usize, j: usize) -> &[u8]
     let a = s.at;
     let e = a + s.length;
     &pkg[a..e]
+}
+
+// The tag of a row, and where its slot says that its first field lies.
+pub struct RowHead {
+    pub tag: usize,
+    pub at: usize,
+    pub length: usize,
+}
+
+// The head of row i. A buffer that is not sound may not have all the bytes of the field.
+pub fn head(pkg: &[u8], i: usize) -> RowHead
+    requires { ⌜ Shape (now pkg) × (i < countOf (now pkg)) ⌝ }
+    ensures { λ r. ⌜ HeadOf (now (pkg .entry)) i (r .tag) (r .at) (r .length) ⌝ }
+{
+    RowHead {
+        tag: number(pkg, i, TAG_AT),
+        at: HEAP_START + number(pkg, i, OFFSET_AT),
+        length: number(pkg, i, LENGTH0_AT),
+    }
 }
 
 // Puts a row in at r. In a sound package the heap has room at its free place.

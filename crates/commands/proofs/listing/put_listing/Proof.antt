@@ -18,7 +18,7 @@ abbrev μ-loop : tie.MeasureT-loop
 own-end-requires : tie.Need-own-end-requires Inv-loop μ-loop
 own-end-requires c κs =
     let at-pre = c .before .before .before .before .before in
-    (at-pre .pre .few, c .loop-test .taken)
+    (at-pre .pre, c .loop-test .taken)
 
 put-group-requires : tie.Need-put-group-requires Inv-loop μ-loop
 put-group-requires c κs =

@@ -12,7 +12,7 @@ seek-requires : tie.Need-seek-requires
 seek-requires c κs =
     let at-fold-into = c .before .before .before in
     let at-pre = at-fold-into .before .before .before .before .before in
-    (at-pre .pre .0 .few, aimed-whole _ _ (at-fold-into .fold-into .ensures) _ _ _ refl)
+    (at-pre .pre .0, aimed-whole _ _ (at-fold-into .fold-into .ensures) _ _ _ refl)
 
 remove-requires : tie.Need-remove-requires
 remove-requires c κs =

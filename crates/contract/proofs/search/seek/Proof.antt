@@ -16,13 +16,19 @@ add-mid : tie.Need-add-mid Inv-loop μ-loop
 add-mid c =
     let at-loop = c .before in
     let at-pre = at-loop .before .before .before .before in
-    omega (arith, at-loop .loop .inv .halved .high, at-pre .pre .0)
+    omega (arith, at-loop .loop .inv .halved .high, at-pre .pre .0 .few)
+
+stands-requires : tie.Need-stands-requires Inv-loop μ-loop
+stands-requires c κs =
+    let at-loop = c .before .before in
+    let at-pre = at-loop .before .before .before .before in
+    ((at-pre .pre .0, omega (arith, at-loop .loop .inv .halved .high)), at-pre .pre .1)
 
 add-lo : tie.Need-add-lo Inv-loop μ-loop
 add-lo c =
     let at-loop = c .before .before .before .before .before in
     let at-pre = at-loop .before .before .before .before in
-    omega (arith, at-loop .loop .inv .halved .high, at-pre .pre .0)
+    omega (arith, at-loop .loop .inv .halved .high, at-pre .pre .0 .few)
 
 loop-again : tie.Need-loop-again Inv-loop μ-loop
 loop-again c =
@@ -53,5 +59,5 @@ seek-spec =
     tie.close
     (tie.spec
     Inv-loop μ-loop (λ c κs. search needs) (λ c. closing-all _ _ _ (c .count .ensures .0)) (λ c. omega arith) add-mid (λ c κs. search needs)
-    (λ c κs. search needs) (λ c. search needs) add-lo (λ c. omega arith) loop-again (λ c. search needs) returns (λ c. search needs)
+    stands-requires (λ c. search needs) add-lo (λ c. omega arith) loop-again (λ c. search needs) returns (λ c. search needs)
     (λ c. omega arith) loop-again-2 (λ c. placed-end _ _ _ _ _ _ (c .before .loop .inv) (c .loop-test .left)))

@@ -33,7 +33,7 @@ seek-requires c κs =
     let at-n = at-fold-into .before .before .before .before in
     let at-strict = at-n .before .before in
     let at-if1 = at-strict .before in (
-      let-in _ _ (at-if1 .before .opened .ensures) (at-if1 .if1 .left) .shape .few,
+      let-in _ _ (at-if1 .before .opened .ensures) (at-if1 .if1 .left) .shape,
       aimed-whole _ _ (at-fold-into .fold-into .ensures) _ _ _
           (prefix-slice _ _ (named-is _ _ (at-strict .strict .ensures) _ _ (at-n .n .given .1) .0)),
     )

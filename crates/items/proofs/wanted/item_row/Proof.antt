@@ -17,7 +17,7 @@ seek-requires : tie.Need-seek-requires
 seek-requires c κs =
     let at-fold-into = c .before .before .before in
     let at-pre = at-fold-into .before .before .before .before .before in
-    (at-pre .pre .0 .0 .few, aimed-whole _ _ (at-fold-into .fold-into .ensures) _ _ _ (prefix-slice _ _ (at-pre .pre .1 .0)))
+    (at-pre .pre .0 .0, aimed-whole _ _ (at-fold-into .fold-into .ensures) _ _ _ (prefix-slice _ _ (at-pre .pre .1 .0)))
 
 returns : tie.Need-returns
 returns c =

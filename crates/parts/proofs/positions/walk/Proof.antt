@@ -14,12 +14,12 @@ abbrev μ-loop : tie.MeasureT-loop
 μ-loop pkg n position row₀ passed₀ row passed = n - row
 
 own-end-requires : tie.Need-own-end-requires Inv-loop μ-loop
-own-end-requires c κs = (c .before .before .before .pre .1, c .loop-test .taken)
+own-end-requires c κs = (c .before .before .before .pre .0, c .loop-test .taken)
 
 makes-part-requires : tie.Need-makes-part-requires Inv-loop μ-loop
 makes-part-requires c κs =
     let at-pre = c .before .before .before .before in
-    c .own-end .ensures .high _ (omega (arith, at-pre .pre .0)) (at-pre .pre .0)
+    c .own-end .ensures .high _ (omega (arith, at-pre .pre .1)) (at-pre .pre .1)
 
 returns : tie.Need-returns Inv-loop μ-loop
 returns c =
@@ -34,7 +34,7 @@ add-passed : tie.Need-add-passed Inv-loop μ-loop
 add-passed c =
     let at-loop = c .before .before .before .before .before in
     let at-pre = at-loop .before .before in
-    omega (arith, at-pre .pre .0, at-loop .loop .inv .few, c .one-if .ensures .1)
+    omega (arith, at-pre .pre .1, at-loop .loop .inv .few, c .one-if .ensures .1)
 
 loop-less : tie.Need-loop-less Inv-loop μ-loop
 loop-less c = omega (arith, c .before .before .before .own-end .ensures .low)

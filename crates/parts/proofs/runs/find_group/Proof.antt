@@ -10,7 +10,7 @@ use Rattle.parts.proofs.runs.find_group.Tie as tie
 seek-requires : tie.Need-seek-requires
 seek-requires c κs =
     let at-pre = c .before .before .before in
-    (at-pre .pre .0 .few, aimed-whole _ _ (at-pre .pre .1) _ _ _ refl)
+    (at-pre .pre .0, aimed-whole _ _ (at-pre .pre .1) _ _ _ refl)
 
 returns : tie.Need-returns
 returns c =

@@ -15,8 +15,8 @@ item-count-requires c κs = let-in _ _ (c .before .opened .ensures) (c .if1 .lef
 
 walk-requires : tie.Need-walk-requires
 walk-requires c κs =
-    let few = let-in _ _ (c .before .before .opened .ensures) (c .before .if1 .left) .shape .few in
-    (omega (arith, c .item-count .ensures .low), few)
+    let shape = let-in _ _ (c .before .before .opened .ensures) (c .before .if1 .left) .shape in
+    (shape, omega (arith, c .item-count .ensures .low, shape .few))
 
 returns-2 : tie.Need-returns-2
 returns-2 c =

@@ -37,14 +37,14 @@ seek-requires c κs =
     let at-fold-into = c .before .before .before in
     let at-if1 = at-fold-into .before .before .before .before in
     let opened = at-if1 .before .opened in
-    (let-in _ _ (opened .ensures) (at-if1 .if1 .left) .shape .few, aimed-whole _ _ (at-fold-into .fold-into .ensures) _ _ _ refl)
+    (let-in _ _ (opened .ensures) (at-if1 .if1 .left) .shape, aimed-whole _ _ (at-fold-into .fold-into .ensures) _ _ _ refl)
 
 seek-requires-2 : tie.Need-seek-requires-2
 seek-requires-2 c κs =
     let at-fold-into = c .before .before .before .before .before .before in
     let at-if1 = at-fold-into .before .before .before .before in
     let opened = at-if1 .before .opened in
-    (let-in _ _ (opened .ensures) (at-if1 .if1 .left) .shape .few, aimed-whole _ _ (at-fold-into .fold-into .ensures) _ _ _ refl)
+    (let-in _ _ (opened .ensures) (at-if1 .if1 .left) .shape, aimed-whole _ _ (at-fold-into .fold-into .ensures) _ _ _ refl)
 
 write-stream-requires : tie.Need-write-stream-requires
 write-stream-requires c κs =
