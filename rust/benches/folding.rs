@@ -5,12 +5,16 @@
 //! these up. The archive judges, folds and searches by halving, so what both
 //! take for the judging alone is told beside it. For names of 50 bytes at most
 //! 2.0 times the map's time is wanted.
+//!
+//! The names are asked for in one order over and over, which the processor
+//! learns, and in a new order for each pass, which it can't.
 
 mod support;
 
 use reference::names::{fold, take_apart};
 use std::collections::HashMap;
 use support::package::buffer;
+use support::Random;
 use zombirels::names;
 use zombirels::package::{Package, CAPACITY_MAX};
 
@@ -122,9 +126,18 @@ fn check(package: &Package, lengths: &Lengths, names: &[Vec<u8>]) {
     }
 }
 
+/// The names by their numbers, in the order in which they are asked for.
+fn order(new_each_pass: bool) -> Vec<usize> {
+    let mut random = Random(1);
+    match new_each_pass {
+        true => (0..PASSES).flat_map(|_| random.shuffled(ITEMS)).collect(),
+        false => (0..ITEMS).collect(),
+    }
+}
+
 /// The seconds of a find and of the judging alone, each by the archive and
 /// beside it, timed in turn.
-fn measure(length: usize, spelling: &Spelling) -> [f64; 4] {
+fn measure(length: usize, spelling: &Spelling, order: &[usize]) -> [f64; 4] {
     let tiles = (0..ITEMS).map(|i| tile(i, length));
     let (held, asked): (Vec<Vec<u8>>, Vec<Vec<u8>>) = tiles
         .map(|tile| ((spelling.held)(&tile), (spelling.asked)(&tile)))
@@ -132,14 +145,15 @@ fn measure(length: usize, spelling: &Spelling) -> [f64; 4] {
     let mut buffer = buffer();
     let (package, lengths) = hold(&mut buffer, &held);
     check(&package, &lengths, &asked);
+    let name = |i: usize| &asked[order[i]][..];
     support::in_turn(
-        PASSES,
-        ITEMS,
+        PASSES * ITEMS / order.len(),
+        order.len(),
         [
-            &mut |i| package.find_item(&asked[i]).expect("held"),
-            &mut |i| find_in_map(&lengths, &asked[i]).expect("held"),
-            &mut |i| names::take_apart(&asked[i]).map_or(0, |item| item.prefix.len()),
-            &mut |i| take_apart(&asked[i]).map_or(0, |item| item.prefix.len()),
+            &mut |i| package.find_item(name(i)).expect("held"),
+            &mut |i| find_in_map(&lengths, name(i)).expect("held"),
+            &mut |i| names::take_apart(name(i)).map_or(0, |item| item.prefix.len()),
+            &mut |i| take_apart(name(i)).map_or(0, |item| item.prefix.len()),
         ],
     )
 }
@@ -147,7 +161,7 @@ fn measure(length: usize, spelling: &Spelling) -> [f64; 4] {
 fn print_row(what: &str, [archive, map, judged, judged_beside]: [f64; 4]) {
     let nanoseconds = |seconds: f64| seconds * 1e9;
     println!(
-        "{what:30} {:10.1} {:10.1} {:8.2} {:10.1} {:10.1}",
+        "{what:42} {:10.1} {:10.1} {:8.2} {:10.1} {:10.1}",
         nanoseconds(archive),
         nanoseconds(map),
         archive / map,
@@ -162,13 +176,16 @@ fn main() {
     let [find, map, ratio, judged, beside] =
         ["archive", "hash map", "ratio", "archive", "reference"];
     println!(
-        "{:30} {find:>10} {map:>10} {ratio:>8} {judged:>10} {beside:>10}",
+        "{:42} {find:>10} {map:>10} {ratio:>8} {judged:>10} {beside:>10}",
         ""
     );
-    for length in LENGTHS {
-        for spelling in &SPELLINGS {
-            let what = format!("{length} bytes, {}", spelling.what);
-            print_row(&what, measure(length, spelling));
+    for (new_each_pass, ending) in [(false, ""), (true, ", new order")] {
+        let order = order(new_each_pass);
+        for length in LENGTHS {
+            for spelling in &SPELLINGS {
+                let what = format!("{length} bytes, {}{ending}", spelling.what);
+                print_row(&what, measure(length, spelling, &order));
+            }
         }
     }
 }
