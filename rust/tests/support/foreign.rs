@@ -49,7 +49,7 @@ fn of_piece(i: u32) -> u32 {
     2 * i + 2 + u32::from(i == ROWS - 1)
 }
 
-pub const KINDS: [Rows; 12] = [
+pub const KINDS: [Rows; 14] = [
     Rows {
         what: "types",
         tag: |i| if i < ROWS / 2 { DEFAULT } else { OVERRIDE },
@@ -129,6 +129,19 @@ pub const KINDS: [Rows; 12] = [
         },
         at: |_| 1,
         fields: |n| [2, 0, n - 2, 0],
+    },
+    // of these names the buffer has no byte, and of those not all
+    Rows {
+        what: "whole items, name behind the end",
+        tag: |_| 0,
+        at: |_| u32::MAX,
+        fields: |_| [2, 0, 0, 0],
+    },
+    Rows {
+        what: "whole items and Overrides, name past the end",
+        tag: |i| if i < ROWS / 2 { 0 } else { OVERRIDE },
+        at: |_| 1,
+        fields: |n| [n + 4, 0, 0, 0],
     },
 ];
 
