@@ -48,7 +48,7 @@ pub record Shared (a q : List ℕ) (i c : ℕ) : Type 0 where
 pub record OrderPast (a q : List ℕ) (c : ℕ) (o : Order) : Type 0 where
   pub is : c ≡ common (fold a) q → o ≡ order (fold a) q
 
--- both: o is the order, if the first i bytes are the same, and c bytes are
+-- both are told: the order by o and the bytes at the beginning that are the same by c, if the first i are
 pub record Compared (a q : List ℕ) (i : ℕ) (o : Order) (c : ℕ) : Type 0 where
   pub shared : Shared a q i c
   pub past : OrderPast a q c o

@@ -1,4 +1,4 @@
-// The calls on items.
+// The calls on items. `&s[..]` for `s`: docs/DECISIONS.md, Slices handed on.
 use crate::clashes::misfit_of;
 use crate::wanted::Wanted;
 use crate::wanted::asked;

@@ -1,4 +1,4 @@
-// Where the bytes of an item lie in the package: for callers that cannot be handed a part of a slice.
+// Where the bytes of an item lie in the package: for callers that cannot be handed a part of a slice. `&s[..]` for `s`: docs/DECISIONS.md, Slices handed on.
 use crate::wanted::Wanted;
 use crate::wanted::asked;
 use crate::wanted::item_row;

@@ -1,4 +1,4 @@
-// The item that a name asks for, and its row.
+// The item that a name asks for, and its row. `&s[..]` for `s`: docs/DECISIONS.md, Slices handed on.
 use chars::folded::fold_into;
 use contract::ITEMS;
 use contract::search::SearchKey;

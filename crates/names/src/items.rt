@@ -1,4 +1,4 @@
-// Item names: a whole item, or a piece.
+// Item names: a whole item, or a piece. `&s[..]` for `s`: docs/DECISIONS.md, Slices handed on.
 use crate::parts::is_name;
 use crate::plain::plain_start;
 use crate::table::is_digit;

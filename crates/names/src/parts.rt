@@ -1,4 +1,4 @@
-// Part names.
+// Part names. `&s[..]` for `s`: docs/DECISIONS.md, Slices handed on.
 use crate::plain::plain_from;
 use crate::plain::plain_start;
 use crate::table::lay_table;
