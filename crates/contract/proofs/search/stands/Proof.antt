@@ -25,7 +25,7 @@ returns-2 c =
 returns-3 : tie.Need-returns-3
 returns-3 c =
     let at-set-of = c .before .before .before .before in
-    stands-none _ _ _ _ _ _ _ (at-set-of .before .head .ensures) (c .if3 .taken)
+    stands-none _ _ _ _ _ _ _ (at-set-of .before .head .ensures) (omega (arith, c .if3 .taken))
 
 add-e : tie.Need-add-e
 add-e c =
