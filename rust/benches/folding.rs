@@ -7,7 +7,7 @@
 //! 2.0 times the map's time is wanted.
 //!
 //! The names are asked for in one order over and over, which the processor
-//! learns, and in a new order for each pass, which it can't.
+//! seems to learn, and in a new order for each pass.
 
 mod support;
 
