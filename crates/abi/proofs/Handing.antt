@@ -15,7 +15,9 @@ use Rattle.model.specs.Calls.{Call}
 use Rattle.contract.specs.Ran.{Ran}
 use Rattle.contract.proofs.Rans.{answered as is-answer}
 use Rattle.abi.specs.declared.replies.Reply.{Reply}
-use Rattle.abi.specs.Replies.{replyOf, HandsOver, valuesOf, Replied}
+use Rattle.store.specs.Packages.{isPackage}
+use Rattle.entries.specs.Promise.{EntryRan}
+use Rattle.abi.specs.Replies.{replyOf, HandsOver, valuesOf, Replied, EntryReplied}
 
 -- the answer b in other words
 pub hands : (a b : Answer) (n : ℕ) (r : Reply) (out : List ℕ) → r ≡ replyOf a → a .output ≡ out → length (a .values) ≡ n → b ≡ a → HandsOver b n r out
@@ -30,6 +32,22 @@ hands-refusal k vs b r out f e z = hands (answer k vs out) b (length vs) r out f
 pub replied : {call : Call} {p : List ℕ} {a : Answer} {q : List ℕ} {r : Reply} {out : List ℕ} → Ran call p a q
     → ((a ≡ unanswered → ⊥) → HandsOver a (valuesOf call) r out) → Replied call p r out q
 replied {call} {p} {a} {q} x h = record { answered = a; ran = x; handed = h (is-answer call p a q x) }
+
+-- the call that copies an entry's field: likewise
+entry-answers : (set position field : ℕ) (output p : List ℕ) (a : Answer) → EntryRan set position field output p a → a ≡ unanswered → ⊥
+entry-answers set position field output p a x e = go (isPackage p) refl
+  where
+    number : a .number ≡ 256
+    number = ap (λ (b : Answer). b .number) e
+
+    go : (t : Bool) → isPackage p ≡ t → ⊥
+    go true q = omega (arith, number, x .numbered q .0)
+    go false q = omega (arith, number, ap (λ (b : Answer). b .number) (x .foreign q))
+
+pub entry-replied : {set position field : ℕ} {output p : List ℕ} {a : Answer} {r : Reply} {out : List ℕ} → EntryRan set position field output p a
+    → ((a ≡ unanswered → ⊥) → HandsOver a 2 r out) → EntryReplied set position field output p r out
+entry-replied {set} {position} {field} {output} {p} {a} x h =
+    record { answered = a; ran = x; handed = h (entry-answers set position field output p a x) }
 
 -- a text's answer has a value
 written-answers : (o : Outcome) (out : List ℕ) → written o out ≡ unanswered → ⊥

@@ -9,6 +9,7 @@ use Rattle.output.specs.Answers.{Answer, answer}
 use Rattle.model.specs.Calls.{Find, View, Totals, Call, Start, Looks, Changes, CutPart, TypeOrigin, Prints, valueCount}
 use Rattle.contract.specs.Ran.{Ran}
 use Rattle.items.specs.Spans.{Viewed}
+use Rattle.entries.specs.Promise.{EntryRan}
 use Rattle.chars.specs.declared.folding.Order.{Order}
 use Rattle.chars.specs.declared.folding.Order.the-variants.{Less, Equal, Greater}
 use Rattle.names.specs.declared.items.Suffix.the-variants.{Whole, Piece}
@@ -44,6 +45,13 @@ pub record Replied (call : Call) (p : List ℕ) (r : Reply) (out q : List ℕ) :
   pub answered : Answer
   pub ran : Ran call p answered q
   pub handed : HandsOver answered (valuesOf call) r out
+
+-- the promise of the exported call that copies an entry's field into an output, which held the bytes output: it looked at the bytes p, and its
+-- reply r and the output hand over an answer for which that call's promise holds
+pub record EntryReplied (set position field : ℕ) (output p : List ℕ) (r : Reply) (out : List ℕ) : Type 0 where
+  pub answered : Answer
+  pub ran : EntryRan set position field output p answered
+  pub handed : HandsOver answered 2 r out
 
 -- a view's reply: two values, where the viewed part of the package b begins, and its length
 pub record ViewReply (name b : List ℕ) (r : Reply) : Type 0 where

@@ -3,6 +3,7 @@ pub mod calls;
 pub mod fields;
 pub mod iris;
 pub mod judgements;
+pub mod listing;
 mod making;
 pub mod replies;
 pub mod running;

@@ -3,6 +3,7 @@ use contract::answers::Cut;
 use contract::answers::Did;
 use contract::answers::Found;
 use contract::answers::Totalled;
+use entries::listing::EntryField;
 use output::writing::Written;
 use pack::pack::Resolved;
 use relationships::resolving::Resolution;
@@ -16,6 +17,7 @@ ghost use Rattle.pack.specs.Pack.{ofResolved};
 ghost use Rattle.model.specs.Calls.{flag as flagOf};
 ghost use Rattle.contract.specs.Answers.{ofDid, ofCut, ofFound, ofTotalled};
 ghost use Rattle.relationships.specs.Resolutions.{ofResolution};
+ghost use Rattle.entries.specs.Promise.{ofEntryField};
 ghost use Rattle.types.specs.TypeOrigins.{ofTypeOrigin};
 ghost use Rattle.abi.specs.Replies.{replyOf, HandsOver};
 
@@ -88,6 +90,16 @@ pub(crate) fn of_type_origin(w: TypeOrigin) -> Reply
         TypeOrigin::Neither => two(0, 0, 0),
         TypeOrigin::Short(n) => two(3, n, 0),
         TypeOrigin::Refused(k) => two(k, 0, 0),
+    }
+}
+
+pub(crate) fn of_entry_field(w: EntryField) -> Reply
+    ensures { λ r. ⌜ ((out : List ℕ) → (ofEntryField w out ≡ unanswered → ⊥) → HandsOver (ofEntryField w out) 2 r out) ⌝ }
+{
+    match w {
+        EntryField::Copied { length, entries } => two(0, length, entries),
+        EntryField::Short(n) => two(3, n, 0),
+        EntryField::Refused(k) => two(k, 0, 0),
     }
 }
 

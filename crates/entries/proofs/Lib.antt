@@ -1,0 +1,4 @@
+pub mod SetNumbers
+pub mod RowListings
+pub mod SetListings
+pub mod EntryCalls

@@ -1,0 +1,4 @@
+pub mod Listing
+pub mod Promise
+pub mod RowTexts
+pub mod Examples

@@ -1,0 +1,2 @@
+// The entries of the four sets by position.
+pub mod listing;
