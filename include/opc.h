@@ -83,6 +83,23 @@ typedef struct opc_reply {
 #define OPC_INTERNAL 0
 #define OPC_EXTERNAL 1
 
+/* The sets of a package, and the fields of their entries. */
+#define OPC_ITEMS 0
+#define OPC_ITEM_NAME 0
+#define OPC_ITEM_BYTES 1
+#define OPC_DEFAULTS 1
+#define OPC_DEFAULT_EXTENSION 0
+#define OPC_DEFAULT_TYPE 1
+#define OPC_OVERRIDES 2
+#define OPC_OVERRIDE_NAME 0
+#define OPC_OVERRIDE_TYPE 1
+#define OPC_RELATIONSHIPS 3
+#define OPC_RELATIONSHIP_SOURCE 0
+#define OPC_RELATIONSHIP_ID 1
+#define OPC_RELATIONSHIP_TYPE 2
+#define OPC_RELATIONSHIP_MODE 3 /* one byte, OPC_INTERNAL or OPC_EXTERNAL */
+#define OPC_RELATIONSHIP_TARGET 4
+
 /* What a part's media type comes from. */
 #define OPC_NEITHER 0
 #define OPC_DEFAULT 1
@@ -188,6 +205,13 @@ opc_reply opc_join_part(uint8_t *package, size_t package_length, const uint8_t *
 /* How many items are held, how many parts they make, and the charge.
    Refusals: no others. */
 opc_reply opc_totals(const uint8_t *package, size_t package_length);
+
+/* Copies a field of the entry at a position, from 0, of a set: its length, and how many entries the set has. Items stand by their folded
+   prefixes and the numbers of pieces, Defaults and Overrides by their folded extensions and names, relationships by their folded sources
+   and ids. It is no call of document 01, and no call of a script.
+   Refusals: 8 if there is no such set, or its entries have no such field; 13 past the last entry; 3. */
+opc_reply opc_entry_at(const uint8_t *package, size_t package_length, uint64_t set, uint64_t position, uint64_t field,
+                       uint8_t *out, size_t out_length);
 
 /* The media type of an extension. It may have parameters and is kept as given.
    Refusals: 7 for either field; to put 10, 15; to drop 13. */

@@ -139,6 +139,15 @@ extern "C" {
         name_length: usize,
     ) -> Reply;
     pub(crate) fn opc_totals(package: *const u8, package_length: usize) -> Reply;
+    pub(crate) fn opc_entry_at(
+        package: *const u8,
+        package_length: usize,
+        set: u64,
+        position: u64,
+        field: u64,
+        out: *mut u8,
+        out_length: usize,
+    ) -> Reply;
     pub(crate) fn opc_put_default(
         package: *mut u8,
         package_length: usize,

@@ -101,6 +101,15 @@ pub struct Totals {
     pub charge: usize,
 }
 
+/// What [`Package::entry_at`] answers.
+#[derive(Clone, Copy, Debug, PartialEq, Eq, Hash)]
+pub struct EntryField {
+    /// How many bytes of the output are the field.
+    pub length: usize,
+    /// How many entries the set has.
+    pub entries: usize,
+}
+
 impl<'a> Package<'a> {
     /// Makes an empty package of `buffer`, whatever it held. `capacity` is the
     /// greatest charge that the package takes.
@@ -181,6 +190,31 @@ impl<'a> Package<'a> {
     /// ```
     pub fn totals(&self) -> Result<Totals, Refusal> {
         self.as_package_ref().totals()
+    }
+
+    /// Copies a field of the entry at a position, from 0, of a set, in the
+    /// order of its keys.
+    ///
+    /// | set | entries | fields |
+    /// |---|---|---|
+    /// | 0 | items | 0 name, 1 bytes |
+    /// | 1 | Defaults | 0 extension, 1 media type |
+    /// | 2 | Overrides | 0 part name, 1 media type |
+    /// | 3 | relationships | 0 source, 1 id, 2 type, 3 mode (one byte, 0 or 1), 4 target |
+    ///
+    /// # Errors
+    ///
+    /// [`Refusal::NotAPackage`]; [`Refusal::BadRelationshipField`] if there is
+    /// no such set or field; [`Refusal::NotHeld`] past the last entry;
+    /// [`Refusal::OutputTooShort`].
+    pub fn entry_at(
+        &self,
+        set: u64,
+        position: u64,
+        field: u64,
+        out: &mut [u8],
+    ) -> Result<EntryField, Refusal> {
+        self.as_package_ref().entry_at(set, position, field, out)
     }
 }
 

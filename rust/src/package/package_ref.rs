@@ -1,6 +1,6 @@
 //! A package that is only looked at.
 
-use super::{show, Resolved, Totals, TypeOrigin};
+use super::{show, EntryField, Resolved, Totals, TypeOrigin};
 use crate::ffi;
 use crate::lent::{ask, ask_two, write, write_two};
 use crate::Refusal;
@@ -117,6 +117,36 @@ impl<'a> PackageRef<'a> {
             )
         };
         reply.values().map(|[length]| length)
+    }
+
+    /// Copies a field of the entry at a position of a set.
+    ///
+    /// # Errors
+    ///
+    /// As [`Package::entry_at`](super::Package::entry_at).
+    pub fn entry_at(
+        &self,
+        set: u64,
+        position: u64,
+        field: u64,
+        out: &mut [u8],
+    ) -> Result<EntryField, Refusal> {
+        // SAFETY: each pointer and its length come from one slice; the
+        // output's is lent for writing.
+        let reply = unsafe {
+            ffi::opc_entry_at(
+                self.buffer.as_ptr(),
+                self.buffer.len(),
+                set,
+                position,
+                field,
+                out.as_mut_ptr(),
+                out.len(),
+            )
+        };
+        reply
+            .values()
+            .map(|[length, entries]| EntryField { length, entries })
     }
 
     /// How many items are held, how many parts they make, and the charge.
