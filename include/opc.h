@@ -149,11 +149,11 @@ typedef struct opc_reply {
 #define OPC_MEDIA_TYPE_MAX 127
 #define OPC_EXTENSION_MAX 31
 #define OPC_ID_MAX 63
-#define OPC_IRI_MAX 255                                            /* target, package IRI, type of a relationship */
-#define OPC_REFERENCE_MAX (2 * OPC_IRI_MAX + 1)                    /* 511: both IRIs, and a slash */
-#define OPC_PACK_IRI_MAX (7 + 3 * OPC_IRI_MAX + OPC_PART_NAME_MAX) /* 1,027: `pack://`, triplets, a part name */
-#define OPC_PACK_ADDRESS_MAX (OPC_IRI_MAX + OPC_PART_NAME_MAX)     /* 510: a package IRI, a part name */
-#define OPC_RELATIONSHIPS_PART_MAX (OPC_PART_NAME_MAX + 11)        /* 266: a part name, `_rels/`, `.rels` */
+#define OPC_IRI_MAX 255                                             /* target, package IRI, type of a relationship */
+#define OPC_RESOLVED_REFERENCE_MAX (2 * OPC_IRI_MAX + 1)            /* 511: both IRIs, and a slash */
+#define OPC_PACK_IRI_MAX (7 + 3 * OPC_IRI_MAX + OPC_PART_NAME_MAX)  /* 1,027: `pack://`, triplets, a part name */
+#define OPC_RESOLVED_PACK_IRI_MAX (OPC_IRI_MAX + OPC_PART_NAME_MAX) /* 510: a package IRI, a part name */
+#define OPC_RELATIONSHIPS_PART_MAX (OPC_PART_NAME_MAX + 11)         /* 266: a part name, `_rels/`, `.rels` */
 /* The XML streams: what stands around the lines, and the lines, with values whose every byte may be an `&` and take
    five. No id has one. 177,917 and 684,941. */
 #define OPC_TYPES_STREAM_MAX                                                         \
@@ -222,7 +222,7 @@ OPC_MUST_USE opc_reply opc_take_apart(const uint8_t *name, size_t name_length) O
  * so is an empty text.
  */
 
-/* A reference against a package IRI, RFC 3986 5.2. OPC_REFERENCE_MAX bytes suffice.
+/* A reference against a package IRI, RFC 3986 5.2. OPC_RESOLVED_REFERENCE_MAX bytes suffice.
    Refusals: 9 for either IRI; 3. */
 OPC_MUST_USE opc_reply opc_resolve_reference(const uint8_t *base, size_t base_length,
                                              const uint8_t *reference, size_t reference_length,
@@ -241,7 +241,7 @@ OPC_MUST_USE opc_reply opc_compose_pack_iri(const uint8_t *base, size_t base_len
                                             uint8_t *out, size_t out_length) OPC_NOT_NULL;
 
 /* The package IRI of a pack IRI, directly followed by the part name, if there is one: both lengths.
-   OPC_PACK_ADDRESS_MAX bytes suffice.
+   OPC_RESOLVED_PACK_IRI_MAX bytes suffice.
    Refusals: 9; 3, with the sum of both lengths. */
 OPC_MUST_USE opc_reply opc_resolve_pack_iri(const uint8_t *iri, size_t iri_length,
                                             uint8_t *out, size_t out_length) OPC_NOT_NULL;

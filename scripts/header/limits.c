@@ -88,17 +88,17 @@ static int names(void)
 /* A reference against a longest base; the pack IRI of a longest package IRI, 254 of whose bytes become triplets, and back. */
 static int iris(void)
 {
-    uint8_t base[OPC_IRI_MAX], name[OPC_PART_NAME_MAX], out[OPC_REFERENCE_MAX];
+    uint8_t base[OPC_IRI_MAX], name[OPC_PART_NAME_MAX], out[OPC_RESOLVED_REFERENCE_MAX];
     size_t length = OPC_PACK_IRI_MAX - 2;
 
     filled(base, "a://", 'a', sizeof base);
     filled(name, "b", 'b', sizeof name);
-    CHECK(is(opc_resolve_reference(base, sizeof base, name, sizeof name, out, sizeof out), 0, 1, OPC_REFERENCE_MAX, 0, 0));
+    CHECK(is(opc_resolve_reference(base, sizeof base, name, sizeof name, out, sizeof out), 0, 1, OPC_RESOLVED_REFERENCE_MAX, 0, 0));
     filled(base, "a:", ':', sizeof base);
     filled(name, "/", 'b', sizeof name);
     CHECK(is(opc_compose_pack_iri(base, sizeof base, name, sizeof name, longest, sizeof longest), 0, 1, length, 0, 0));
     CHECK(is(opc_resolve_pack_iri(longest, length, out, sizeof out), 0, 2, OPC_IRI_MAX, OPC_PART_NAME_MAX, 0));
-    CHECK(OPC_PACK_ADDRESS_MAX == OPC_IRI_MAX + OPC_PART_NAME_MAX);
+    CHECK(OPC_RESOLVED_PACK_IRI_MAX == OPC_IRI_MAX + OPC_PART_NAME_MAX);
     CHECK(memcmp(out, base, sizeof base) == 0 && memcmp(out + sizeof base, name, sizeof name) == 0);
     return 0;
 }
