@@ -97,8 +97,9 @@ static int iris(void)
     filled(base, "a:", ':', sizeof base);
     filled(name, "/", 'b', sizeof name);
     CHECK(is(opc_compose_pack_iri(base, sizeof base, name, sizeof name, longest, sizeof longest), 0, 1, length, 0, 0));
-    CHECK(is(opc_resolve_pack_iri(longest, length, out, sizeof out), 0, 2, OPC_IRI_MAX, OPC_PART_NAME_MAX, 0));
-    CHECK(OPC_RESOLVED_PACK_IRI_MAX == OPC_IRI_MAX + OPC_PART_NAME_MAX);
+    CHECK(is(opc_resolve_pack_iri(longest, length, out, OPC_RESOLVED_PACK_IRI_MAX - 1), OPC_OUTPUT_TOO_SHORT, 2,
+             OPC_RESOLVED_PACK_IRI_MAX, 0, 0));
+    CHECK(is(opc_resolve_pack_iri(longest, length, out, OPC_RESOLVED_PACK_IRI_MAX), 0, 2, OPC_IRI_MAX, OPC_PART_NAME_MAX, 0));
     CHECK(memcmp(out, base, sizeof base) == 0 && memcmp(out + sizeof base, name, sizeof name) == 0);
     return 0;
 }
