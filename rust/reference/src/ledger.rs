@@ -1,5 +1,6 @@
 //! The ledger: what a package must answer after any list of calls.
 
+mod entries;
 mod group;
 mod pieces;
 mod relationships;
@@ -7,6 +8,7 @@ mod types;
 
 use crate::names::{fold, is_derivable, is_part_name, is_reserved, take_apart, ItemName};
 use crate::{write_out, Refusal};
+pub use entries::Entries;
 use group::{Group, Item};
 pub use pieces::Cut;
 use relationships::Relationship;

@@ -19,6 +19,12 @@ impl Relationship {
     pub(super) fn charge(&self) -> u64 {
         charge(&[&self.source, &self.id, &self.kind, &self.target])
     }
+
+    /// Its source, id and type, its mode as one byte, and its target.
+    fn fields(&self) -> [&[u8]; 5] {
+        let mode: &[u8] = if self.external { &[1] } else { &[0] };
+        [&self.source, &self.id, &self.kind, mode, &self.target]
+    }
 }
 
 impl Ledger {
@@ -61,6 +67,11 @@ impl Ledger {
         let entry = self.relationships.remove(&(fold(source), id.to_vec()));
         self.charge -= entry.ok_or(Refusal::NotHeld)?.charge();
         Ok(())
+    }
+
+    /// The fields of all relationships, the mode as one byte.
+    pub fn relationships(&self) -> impl Iterator<Item = [&[u8]; 5]> {
+        self.relationships.values().map(Relationship::fields)
     }
 
     /// Writes the IRI that a relationship leads to.

@@ -1,4 +1,5 @@
 mod cuts;
+mod entries;
 mod origins;
 mod types;
 
