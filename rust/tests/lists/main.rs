@@ -1,11 +1,15 @@
 //! Random lists of calls on one package: the archive beside the ledger of the
 //! reference. Compared are every answer, every output byte, every viewed byte.
 //!
+//! Entries by their positions are compared as well, all of them at the end of
+//! each list.
+//!
 //! There are nine kinds of lists, 27,000 lists in all. ZOMBIRELS_LISTS sets how
 //! many each kind gets. From 1,000 on it is checked that each kind meets the
 //! refusals that it is there for.
 
 mod cuts;
+mod entries;
 mod fields;
 mod items;
 mod list;
@@ -69,7 +73,9 @@ fn run_list(random: &mut Random, style: Style, seen: &mut Seen) -> usize {
         if pair.compare(random, &call).is_ok() {
             note(&mut list, call);
         }
+        pair.some_entries(random);
     }
+    pair.sweep_entries(random);
     pair.sweep(random, &list);
     pair.sweep_starts(random, list.lent);
     let calls = pair.made.len();
@@ -111,6 +117,7 @@ fn run_lists(style: Style, expected: &[(Code, &[u64])], resolved: &[(usize, usiz
     println!("{test}: {lists} lists, {calls} calls compared; by call and number: {numbers:?}");
     println!("{test}: with parameters: {parameters:?}");
     println!("{test}: remarkable: {:?}", seen.kinds);
+    seen.entries.print(&test);
     if lists < COVERED {
         return;
     }
@@ -132,6 +139,7 @@ fn run_lists(style: Style, expected: &[(Code, &[u64])], resolved: &[(usize, usiz
     for kind in kinds {
         assert!(seen.kinds.contains_key(kind), "{test}: {kind} never came");
     }
+    seen.entries.check(style);
     for answer in resolved {
         let met = seen.resolved.contains(answer);
         assert!(met, "{test}: no target was resolved to {answer:?}");

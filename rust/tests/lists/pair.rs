@@ -1,6 +1,7 @@
 //! One package on both sides: each call is made twice and compared.
 
 use crate::cuts::Before;
+use crate::entries::SeenEntries;
 use crate::origins;
 use crate::support::calls::{Answer, Call};
 use crate::support::outputs::Outputs;
@@ -21,6 +22,8 @@ pub struct Seen {
     pub kinds: BTreeMap<&'static str, usize>,
     /// The modes of resolved targets, and whether their parts were held.
     pub resolved: BTreeSet<(usize, usize)>,
+    /// What came of entries that were asked for by their positions.
+    pub entries: SeenEntries,
 }
 
 impl Seen {

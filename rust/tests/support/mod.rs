@@ -3,6 +3,7 @@
 #![allow(dead_code)] // each test uses its own share
 
 pub mod calls;
+pub mod entries;
 pub mod outputs;
 pub mod pieces;
 pub mod types;
