@@ -6,12 +6,14 @@
 //! access beside them: `scripts/memcheck` at the top runs them so.
 
 mod cuts;
+mod entries;
 mod none;
 mod origins;
 mod random;
 #[path = "../support/mod.rs"]
 mod support;
 
+use entries::SeenEntries;
 use random::{cut_or_join, drop_field, name, put_field, random_call};
 use std::collections::BTreeMap;
 use std::sync::atomic::{AtomicUsize, Ordering};
@@ -61,6 +63,8 @@ struct Seen {
     later: BTreeMap<(Code, u64), usize>,
     /// How often a type came from each kind of entry.
     origins: BTreeMap<usize, usize>,
+    /// What came of entries that were asked for by their positions.
+    entries: SeenEntries,
 }
 
 impl Seen {
@@ -89,6 +93,7 @@ impl Seen {
         println!("{test}: {calls} calls, by number: {numbers:?}");
         println!("{test}: cuts, joins and type origins: {:?}", self.later);
         println!("{test}: type origins by kind: {:?}", self.origins);
+        self.entries.print(test);
     }
 }
 
@@ -166,6 +171,7 @@ fn run(test: &str, damage: impl Fn(&mut Random) -> Box<[u8]>) -> Seen {
             let call = random_call(&mut random);
             make(&mut random, &mut seen, &mut buffer, &call);
         }
+        entries::ask_some(&mut random, &mut seen.entries, &buffer, 4);
         // a start takes any bytes, and what it makes works
         if random.once_in(8) && buffer.len() >= OVERHEAD + 20 {
             let mut package = Package::start(&mut buffer, 20).expect("room");

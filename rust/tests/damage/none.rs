@@ -7,7 +7,7 @@ use zombirels::package::{Mode, Package, PackageRef, Totals, CAPACITY_MAX, OVERHE
 use zombirels::Refusal;
 
 /// How many calls are made on each buffer.
-const NONE_CALLS: usize = 26;
+const NONE_CALLS: usize = 28;
 
 /// Each of these calls on the buffer gives 1, and the view is empty.
 fn is_no_package(buffer: &mut [u8]) {
@@ -28,6 +28,8 @@ fn is_no_package(buffer: &mut [u8]) {
     assert_eq!(package.join_part(b"/a"), Err(one));
     assert_eq!(package.join_part(b"no name"), Err(one));
     assert_eq!(package.totals(), Err(one));
+    assert_eq!(package.entry_at(0, 0, 0, &mut out), Err(one));
+    assert_eq!(package.entry_at(4, u64::MAX, 9, &mut []), Err(one));
     assert_eq!(package.put_default(b"e", b"a/b"), Err(one));
     assert_eq!(package.drop_default(b"no.extension"), Err(one));
     assert_eq!(package.put_override(b"/a", b"a/b"), Err(one));
