@@ -4,8 +4,11 @@
 
 #[path = "support/foreign.rs"]
 mod foreign;
+mod support;
 
 use foreign::{Call, Header, Share, CALLS, HEADERS, KINDS};
+use std::collections::BTreeMap;
+use support::entries::{told, Ask};
 use zombirels::package::{Package, PackageRef};
 use zombirels::Refusal;
 
@@ -72,6 +75,81 @@ fn streams_by_the_bytes_in_use() {
                 _ => package.write_relationships(b"/", &mut out),
             };
             assert_eq!(answer.err(), expected, "{}", kind.what);
+        }
+    }
+}
+
+/// How many fields the entries of each set have.
+const WIDTHS: [u64; 4] = [2, 2, 2, 5];
+
+/// Positions in the sets of a package, of as many rows as there are, and past
+/// all of them.
+const POSITIONS: [u64; 12] = [0, 1, 63, 64, 255, 256, 319, 320, 638, 639, 640, u64::MAX];
+
+/// The number of an entry's answer. The output is then what it was before.
+fn entry_number(buffer: &[u8], ask: Ask, out: &mut [u8]) -> u64 {
+    let out = &mut out[..ask.lent];
+    let answer = told(&ask.reply(buffer, out));
+    let (number, written) = match answer {
+        Ok([length, _]) => (0, length),
+        Err((number, _)) => (number, 0),
+    };
+    assert!([0, 3, 13].contains(&number), "{ask:?}: {number}");
+    assert!(written <= ask.lent, "{ask:?}: {written}");
+    out[..written].fill(7);
+    let kept = out.iter().all(|&byte| byte == 7);
+    assert!(kept, "{ask:?}: {number} changed the output");
+    number
+}
+
+/// Asks for the field at each position, with no output and with a short one,
+/// and at one position with one that takes all of the heap.
+fn every_entry(buffer: &[u8], out: &mut [u8], seen: &mut BTreeMap<(u64, u64), usize>) {
+    let before = buffer.to_vec();
+    for (set, width) in (0..).zip(WIDTHS) {
+        for field in 0..width {
+            let asks = POSITIONS.iter().flat_map(|&position| {
+                [0, 4096].map(|lent| Ask {
+                    set,
+                    position,
+                    field,
+                    lent,
+                })
+            });
+            let long = Ask {
+                set,
+                position: 200,
+                field,
+                lent: out.len(),
+            };
+            for ask in asks.chain([long]) {
+                let number = entry_number(buffer, ask, out);
+                *seen.entry((set, number)).or_insert(0) += 1;
+            }
+        }
+    }
+    assert!(*buffer == before, "an entry changed the package");
+}
+
+/// Entries of rows that all lie in one place: by each position and field.
+#[test]
+fn entries_by_position() {
+    let heap = 2_000_000; // still more than a package uses
+    let mut out = vec![7; heap];
+    let mut seen = BTreeMap::new();
+    for share in [Share::Heap, Share::Used] {
+        for kind in &KINDS {
+            for header in HEADERS {
+                let buffer = foreign::buffer(kind, header, share, heap);
+                every_entry(&buffer, &mut out, &mut seen);
+            }
+        }
+    }
+    let asked: usize = seen.values().sum();
+    println!("{asked} entries, by set and number: {seen:?}");
+    for set in 0..4 {
+        for number in [0, 3, 13] {
+            assert!(seen.contains_key(&(set, number)), "set {set}: {number}");
         }
     }
 }

@@ -184,7 +184,7 @@ const TYPE: &[u8] = b"image/tiff";
 const BASE: &[u8] = b"http://example.com/slide.opc";
 
 /// Every call on a package but start.
-pub const CALLS: [(&str, Call); 26] = [
+pub const CALLS: [(&str, Call); 30] = [
     ("put item", |p, _| p.put_item(b"/b", &[7; 100])),
     ("put item, derivable", |p, _| p.put_item(b"/a/b", b"")),
     ("drop item", |p, _| p.drop_item(b"/a")),
@@ -203,6 +203,18 @@ pub const CALLS: [(&str, Call); 26] = [
     ("join part", |p, _| p.join_part(b"/a")),
     ("join part, not held", |p, _| p.join_part(b"/b")),
     ("totals", |p, _| p.totals().map(drop)),
+    ("entry at, item", |p, out| {
+        p.entry_at(0, 255, 1, out).map(drop)
+    }),
+    ("entry at, Default", |p, out| {
+        p.entry_at(1, 63, 1, out).map(drop)
+    }),
+    ("entry at, Override", |p, out| {
+        p.entry_at(2, 63, 1, out).map(drop)
+    }),
+    ("entry at, relationship", |p, out| {
+        p.entry_at(3, 255, 4, out).map(drop)
+    }),
     ("put Default", |p, _| p.put_default(b"a", TYPE)),
     ("drop Default", |p, _| p.drop_default(b"a")),
     ("put Override", |p, _| p.put_override(b"/a", TYPE)),
