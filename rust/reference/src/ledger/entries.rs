@@ -1,4 +1,5 @@
-//! The entry at a position of a set. It is no call of document 01.
+//! The entry at a position of a set. It is no call of document 01, and follows
+//! the rule in `include/opc.h`.
 
 use super::Ledger;
 use crate::names::{fold, take_apart};
