@@ -1,14 +1,13 @@
 -- The rows of a set, one by one, are its entries.
 -- Assumes nothing.
 use Prim.Native.Nat.{ℕ, zero, suc, _+_, _≤_, _<_}
-use mathlib.Core.Path.{_≡_, refl, ap, ap₂, sym, _∙_, subst}
+use mathlib.Core.Path.{_≡_, refl, ap, ap₂, sym, _∙_}
 use mathlib.Core.Bool.{cond}
 use mathlib.Core.List.{List, [], _∷_, _++_, map, append-nil}
 use native.Mathlib.Omega.{arith}
 use lib.Dec.{eqb}
 use lib.ListN.{length, getD, take, drop, take-append-drop, length-map}
 use lib.Seq.{drop-at, getD-append-add}
-use borrow.Author.Tests.{eq-eqb, ne-eqb}
 use Rattle.names.specs.Items.{itemName}
 use Rattle.names.specs.declared.items.ItemName.{ItemName}
 use Rattle.names.specs.declared.items.ItemName.the-variants.{Named, Refused}
@@ -16,11 +15,9 @@ use Rattle.model.specs.Sets.{Bytes, Each}
 use Rattle.model.specs.Fields.{prefixIn, prefixOf}
 use Rattle.model.specs.Places.{bound}
 use Rattle.model.specs.Package.{Item, Default, Override, Relationship, State, relationshipKind}
-use Rattle.model.specs.Good.{Good}
 use Rattle.model.proofs.Lists.{each-map}
 use Rattle.model.proofs.Targets.{fielded, mode-le}
-use Rattle.store.specs.Layout.{countOf}
-use Rattle.store.specs.Rows.{Row, noRow, rowAt, rowsOf}
+use Rattle.store.specs.Rows.{Row, noRow, rowAt}
 use Rattle.store.proofs.Headers.{row-getD}
 use Rattle.contract.specs.Rows.{externalTag, itemRow, defaultRow, overrideRow, relationshipRow, keyIn, rowKey, RowKind, itemRows, defaultRows, overrideRows}
 use Rattle.contract.specs.Rows.{relationshipRows, entryRows}

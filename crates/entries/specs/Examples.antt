@@ -7,7 +7,7 @@ use mathlib.Core.List.{List, [], _∷_}
 use Rattle.chars.specs.Bytes.{ascii}
 use Rattle.output.specs.Answers.{Answer, answer}
 use Rattle.model.specs.Package.{State, empty}
-use Rattle.model.specs.Calls.{Call, Changes, PutItem, PutDefault, PutOverride, PutRelationship, overhead, after}
+use Rattle.model.specs.Calls.{Call, Changes, PutItem, PutDefault, PutRelationship, overhead, after}
 use Rattle.model.specs.Opened.{everything}
 use Rattle.entries.specs.Listing.{listed, entryAt}
 

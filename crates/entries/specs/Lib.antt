@@ -1,4 +1,5 @@
 pub mod Listing
 pub mod Promise
+pub mod Demand
 pub mod RowTexts
 pub mod Examples

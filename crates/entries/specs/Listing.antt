@@ -40,6 +40,10 @@ listed set S =
 abbrev pub fieldCount : ℕ → ℕ
 fieldCount set = getD (2 ∷ 2 ∷ 2 ∷ 5 ∷ []) set 0
 
+-- a field of the entry at a position
+abbrev pub shown : State → ℕ → ℕ → ℕ → Bytes
+shown S set position field = getD (getD (listed set S) position []) field []
+
 -- THE ANSWER: 8 for a set or a field that is not there, 13 for no such position; else the field's length and how many entries the set has, and
 -- 3 where the output is too short
 abbrev pub entryRefusal : State → ℕ → ℕ → ℕ → ℕ
@@ -47,5 +51,4 @@ entryRefusal S set position field = first (when (leb (fieldCount set) field) 8 �
 
 unfoldable pub entryAt : State → ℕ → ℕ → ℕ → Bytes → Answer
 entryAt S set position field output =
-    filled 2 output
-    (unless (entryRefusal S set position field) (Text (getD (getD (listed set S) position []) field []) (length (listed set S) ∷ [])))
+    filled 2 output (unless (entryRefusal S set position field) (Text (shown S set position field) (length (listed set S) ∷ [])))

@@ -1,4 +1,3 @@
-use borrow.Author.Needs.{needs}
 use Rattle.entries.proofs.SetNumbers.{two-fields, five-fields, no-fields}
 use Rattle.entries.proofs.listing.field_count.Statement.{statement}
 use Rattle.entries.proofs.listing.field_count.Tie as tie

@@ -1,5 +1,4 @@
 use mathlib.Core.Path.{refl, sym}
-use mathlib.Core.List.{[], _∷_}
 use lib.ListN.{length-append}
 use borrow.Author.Needs.{needs}
 use Rattle.output.specs.Answers.{Text}

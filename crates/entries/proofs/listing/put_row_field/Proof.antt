@@ -1,4 +1,3 @@
-use mathlib.Core.Bool.{cond}
 use borrow.Author.Needs.{needs}
 use borrow.Author.Tests.{eq-eqb, ne-eqb}
 use Rattle.contract.specs.Rows.{externalTag}
