@@ -13,7 +13,7 @@ mod support;
 use std::hint::black_box;
 use support::package::tile;
 use support::{median, seconds, Random};
-use zombirels::package::{Mode, Package, PackageRef, CAPACITY_MAX, OVERHEAD};
+use zombirels::package::{Mode, Package, CAPACITY_MAX, OVERHEAD};
 
 const TILE: usize = 200_000;
 const ITEMS: usize = 200;
@@ -41,18 +41,18 @@ fn names(name: &str, count: usize) -> usize {
 /// A package of 200 items with the tile in their midst.
 fn tiles(more: usize) -> Vec<u8> {
     let mut buffer = vec![0; CAPACITY + OVERHEAD + more];
-    let mut package = Package::start(&mut buffer, CAPACITY_MAX).expect("room");
+    let package = Package::start(&mut buffer, CAPACITY_MAX).expect("room");
     for i in 0..ITEMS {
         let size = if i == ITEMS / 2 { TILE } else { 1000 };
         let bytes = vec![i as u8; size];
-        package.put_item(&tile(i), &bytes).expect("room");
+        package.put_item(tile(i), &bytes).expect("room");
     }
     buffer
 }
 
 /// Where an item's bytes lie.
 fn place(buffer: &[u8], name: &[u8]) -> usize {
-    let view = PackageRef::open(buffer).view_item(name);
+    let view = Package::open(buffer).view_item(name).expect("held");
     view.as_ptr() as usize - buffer.as_ptr() as usize
 }
 
@@ -89,11 +89,11 @@ fn beside_a_copy(what: &str, more: usize, pieces: u64, go_on: bool) {
             restore(&mut copies, &buffer);
         }
         let cut = seconds_of(&mut copies, |copy| {
-            let cut = Package::open(copy).cut_part(black_box(&name), pieces);
+            let cut = Package::open_mut(copy).cut_part(black_box(&name), pieces);
             cut.expect("room");
         });
         let join = seconds_of(&mut copies, |copy| {
-            let join = Package::open(copy).join_part(black_box(&name));
+            let join = Package::open_mut(copy).join_part(black_box(&name));
             join.expect("in pieces");
         });
         restore(&mut copied, &buffer);
@@ -135,7 +135,7 @@ impl Case {
         let mut times = vec![Vec::new(); self.calls.len()];
         for _ in 0..FULL_ROUNDS {
             package.copy_from_slice(&self.buffer);
-            let mut package = Package::open(&mut package);
+            let package = Package::open_mut(&mut package);
             for (call, times) in self.calls.iter().zip(&mut times) {
                 let start = seconds();
                 match call {
@@ -167,7 +167,7 @@ impl Case {
 /// which the first takes what is left.
 fn full(entries: &[(Vec<u8>, usize)], order: &[usize], relationships: usize) -> Vec<u8> {
     let mut buffer = vec![0; CAPACITY + OVERHEAD];
-    let mut package = Package::start(&mut buffer, CAPACITY_MAX).expect("room");
+    let package = Package::start(&mut buffer, CAPACITY_MAX).expect("room");
     for i in 0..relationships {
         let id = format!("r{i}");
         let put = package.put_relationship(b"/", id.as_bytes(), b"a:", Mode::External, b"b:");
@@ -179,9 +179,7 @@ fn full(entries: &[(Vec<u8>, usize)], order: &[usize], relationships: usize) -> 
     for &i in order {
         let (name, length) = &entries[i];
         let length = if i == 0 { length + left } else { *length };
-        package
-            .put_item(name, &vec![i as u8; length])
-            .expect("room");
+        package.put_item(name, vec![i as u8; length]).expect("room");
     }
     assert_eq!(package.totals().expect("a package").charge, CAPACITY);
     buffer
@@ -199,7 +197,7 @@ fn whole(what: &'static str, gap: bool) -> Case {
     let room = names("/t", 256) - 2;
     let entries = [(b"/t".to_vec(), 0), (b"/gap".to_vec(), room - 4)];
     let mut buffer = full(&entries, if gap { &[1, 0] } else { &[0, 1] }, 0);
-    let mut package = Package::open(&mut buffer);
+    let package = Package::open_mut(&mut buffer);
     package.drop_item(b"/gap").expect("held");
     Case {
         what,

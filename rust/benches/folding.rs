@@ -104,11 +104,11 @@ fn find_in_map(lengths: &Lengths, name: &[u8]) -> Option<usize> {
 }
 
 /// The items on both sides, each of another length.
-fn hold<'a>(buffer: &'a mut [u8], names: &[Vec<u8>]) -> (Package<'a>, Lengths) {
-    let mut package = Package::start(buffer, CAPACITY_MAX).expect("room");
+fn hold<'a>(buffer: &'a mut [u8], names: &[Vec<u8>]) -> (&'a mut Package, Lengths) {
+    let package = Package::start(buffer, CAPACITY_MAX).expect("room");
     let mut lengths = HashMap::new();
     for (i, name) in names.iter().enumerate() {
-        package.put_item(name, &vec![0; i]).expect("room");
+        package.put_item(name, vec![0; i]).expect("room");
         lengths.insert(fold(name), i);
     }
     assert_eq!(lengths.len(), ITEMS, "all names differ");
@@ -144,7 +144,7 @@ fn measure(length: usize, spelling: &Spelling, order: &[usize]) -> [f64; 4] {
         .unzip();
     let mut buffer = buffer();
     let (package, lengths) = hold(&mut buffer, &held);
-    check(&package, &lengths, &asked);
+    check(package, &lengths, &asked);
     let name = |i: usize| &asked[order[i]][..];
     support::in_turn(
         PASSES * ITEMS / order.len(),

@@ -47,9 +47,9 @@ fn time(buffer: &[u8], call: Call, out: &mut [u8]) -> f64 {
     let mut package = buffer.to_vec();
     middle(|| {
         package.copy_from_slice(buffer);
-        let mut package = Package::open(&mut package);
+        let package = Package::open_mut(&mut package);
         milliseconds(|| {
-            black_box(call(&mut package, out)).ok();
+            black_box(call(package, out)).ok();
         })
     })
 }

@@ -61,16 +61,16 @@ fn full(order: &[usize], put: impl Fn(&mut Package, usize)) -> (Vec<u8>, Vec<Pla
     let mut capacity = CAPACITY_MAX as usize;
     loop {
         let mut buffer = vec![0; capacity + OVERHEAD];
-        let mut package = Package::start(&mut buffer, capacity as u64).expect("room");
+        let package = Package::start(&mut buffer, capacity as u64).expect("room");
         let charge = |package: &Package| package.totals().expect("a package").charge;
         let mut places = Vec::new();
         for &row in order {
-            let at = charge(&package);
-            put(&mut package, row);
-            let size = charge(&package) - at;
+            let at = charge(package);
+            put(package, row);
+            let size = charge(package) - at;
             places.push(Place { row, at, size });
         }
-        let used = charge(&package);
+        let used = charge(package);
         if used == capacity {
             return (buffer, places);
         }
@@ -130,11 +130,11 @@ impl Case {
     /// Puts rows in this order, and drops those at these places.
     fn new(what: String, order: &[usize], is_gap: impl Fn(usize) -> bool) -> Case {
         let (mut buffer, places) = full(order, put);
-        let mut package = Package::open(&mut buffer);
+        let package = Package::open_mut(&mut buffer);
         let mut held = Vec::new();
         for (number, place) in places.into_iter().enumerate() {
             if is_gap(number) {
-                drop(&mut package, place.row);
+                drop(package, place.row);
             } else {
                 held.push(place);
             }
@@ -152,7 +152,7 @@ impl Case {
         let mut roomy = vec![longer(&self.buffer, 100); COPIES];
         let mut moved = vec![self.buffer.clone(); COPIES];
         let put = |copy: &mut Vec<u8>| {
-            let put = Package::open(copy).put_item(black_box(b"/x"), b"t");
+            let put = Package::open_mut(copy).put_item(black_box(b"/x"), b"t");
             put.expect("room");
         };
         let seconds = [
@@ -219,7 +219,10 @@ fn in_turn(what: &str, count: usize, length: usize) {
     });
     let mut heap = vec![7; buffer.len() - OVERHEAD];
     let mut roomy = longer(&buffer, 4_000_000); // gathers once in a thousand puts at most
-    let mut packages = [Package::open(&mut buffer), Package::open(&mut roomy)];
+    let mut packages = [
+        Package::open_mut(&mut buffer),
+        Package::open_mut(&mut roomy),
+    ];
     let mut times = Times::default();
     for _ in 0..ROUNDS {
         let (mut rows, mut moves) = (Vec::new(), Vec::new());

@@ -161,7 +161,7 @@ fn among(count: usize) -> [(f64, f64); 3] {
         2000,
         1,
         |_| {
-            package.put_item(&name, &bytes).expect("room");
+            package.put_item(&name, bytes).expect("room");
             package.drop_item(&name).expect("held");
             0
         },
@@ -207,7 +207,7 @@ fn view() {
         "view among 200",
         500,
         200,
-        |i| pair.package.view_item(&names[i]).len(),
+        |i| pair.package.view_item(&names[i]).map_or(0, <[u8]>::len),
         |i| pair.ledger.view_item(&names[i]).len(),
     );
 }

@@ -37,9 +37,9 @@ fn compare(
     add: impl Fn(&mut Script, &[u8]) + Copy,
 ) {
     let mut buffer = buffer();
-    let mut package = Package::start(&mut buffer, CAPACITY_MAX).expect("room");
+    let package = Package::start(&mut buffer, CAPACITY_MAX).expect("room");
     for i in 0..ITEMS {
-        package.put_item(&tile(i), &vec![7; bytes]).expect("room");
+        package.put_item(tile(i), vec![7; bytes]).expect("room");
     }
     let package = RefCell::new(package);
     let names: Vec<Vec<u8>> = (0..CALLS).map(|i| asked(i % ITEMS)).collect();

@@ -7,10 +7,10 @@
 use std::error::Error;
 use std::path::PathBuf;
 use std::{env, fs};
-use zombirels::package::{Mode, Package, OVERHEAD};
+use zombirels::package::{Mode, Package, PackageBuf};
 use zombirels::Refusal;
 
-const CAPACITY: usize = 30_000;
+const CAPACITY: u64 = 30_000;
 
 /// Extensions and media types, with what XML could mistake.
 const DEFAULTS: &[[&str; 2]] = &[
@@ -75,14 +75,12 @@ const STREAMS: &[[&str; 2]] = &[
 
 fn main() -> Result<(), Box<dyn Error>> {
     let folder = PathBuf::from(env::args().nth(1).ok_or("which folder?")?);
-    let mut buffer = vec![0; CAPACITY + OVERHEAD];
-    let mut package = Package::start(&mut buffer, CAPACITY as u64)?;
+    let mut package = PackageBuf::start(CAPACITY)?;
     fs::write(folder.join("put"), put(&mut package)?)?;
 
-    let types = written(|out| package.write_types(out))?;
-    fs::write(folder.join("types.xml"), types)?;
+    fs::write(folder.join("types.xml"), package.write_types_to_string()?)?;
     for [source, file] in STREAMS {
-        let stream = written(|out| package.write_relationships(source.as_bytes(), out))?;
+        let stream = package.write_relationships_to_string(source)?;
         fs::write(folder.join(file), stream)?;
     }
     Ok(())
@@ -92,15 +90,15 @@ fn main() -> Result<(), Box<dyn Error>> {
 fn put(package: &mut Package) -> Result<String, Refusal> {
     let mut lines = String::new();
     for [extension, kind] in DEFAULTS {
-        package.put_default(extension.as_bytes(), kind.as_bytes())?;
+        package.put_default(extension, kind)?;
         lines += &format!("Default\t{extension}\t{kind}\n");
     }
     for [name, kind] in OVERRIDES {
-        package.put_override(name.as_bytes(), kind.as_bytes())?;
+        package.put_override(name, kind)?;
         lines += &format!("Override\t{name}\t{kind}\n");
     }
     for (fields, mode) in RELATIONSHIPS {
-        let [source, id, kind, target] = fields.map(str::as_bytes);
+        let [source, id, kind, target] = fields;
         package.put_relationship(source, id, kind, *mode, target)?;
         let mark = match mode {
             Mode::Internal => "",
@@ -109,15 +107,4 @@ fn put(package: &mut Package) -> Result<String, Refusal> {
         lines += &format!("Relationship\t{}{mark}\n", fields.join("\t"));
     }
     Ok(lines)
-}
-
-/// What a call writes, into as many bytes as it says it needs.
-fn written(call: impl Fn(&mut [u8]) -> Result<usize, Refusal>) -> Result<Vec<u8>, Refusal> {
-    let mut out = Vec::new();
-    if let Err(Refusal::OutputTooShort { needed }) = call(&mut out) {
-        out.resize(needed, 0);
-    }
-    let length = call(&mut out)?;
-    out.truncate(length);
-    Ok(out)
 }

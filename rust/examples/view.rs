@@ -1,4 +1,4 @@
-//! A small viewer: loads a slide into one lent buffer and shows what it holds.
+//! A small viewer: loads a slide and shows what it holds.
 //!
 //!     cargo run --example view [SHEET [LINKS]]
 //!
@@ -9,22 +9,13 @@
 use std::error::Error;
 use std::path::Path;
 use std::{env, fs};
-use zombirels::package::{Mode, Package, PackageRef, Resolved, Totals, TypeOrigin, OVERHEAD};
+use zombirels::package::{Mode, Package, PackageBuf, Part, TypeOrigin};
 use zombirels::Refusal;
 
-const CAPACITY: usize = 30_000;
+const CAPACITY: u64 = 30_000;
 
 /// Where this slide is kept.
-const BASE: &[u8] = b"http://slides.example.org/teaching/ovary-17.opc";
-
-/// A line of LINKS.
-struct Link<'a> {
-    source: &'a [u8],
-    id: &'a [u8],
-    mode: Mode,
-    target: &'a [u8],
-    kind: &'a [u8],
-}
+const BASE: &str = "http://slides.example.org/teaching/ovary-17.opc";
 
 fn main() -> Result<(), Box<dyn Error>> {
     let mut files = env::args().skip(1);
@@ -34,178 +25,107 @@ fn main() -> Result<(), Box<dyn Error>> {
     };
     let (sheet, links) = (read("slide.sheet")?, read("slide.links")?);
 
-    let mut buffer = vec![0; CAPACITY + OVERHEAD];
-    let mut slide = Package::start(&mut buffer, CAPACITY as u64)?;
+    let mut slide = PackageBuf::start(CAPACITY)?;
     println!("Loading");
-    load(&mut slide, &sheet);
-    let links = load_links(&mut slide, &links);
+    lines(&sheet).for_each(|line| put(&mut slide, line));
+    lines(&links).for_each(|line| put_link(&mut slide, line));
 
-    let slide = PackageRef::open(&buffer);
-    show_parts(slide)?;
-    show_links(slide, &links)?;
-    show_streams(slide, &links)?;
+    show_parts(&slide)?;
+    show_links(&slide)?;
+    show_streams(&slide)?;
     Ok(())
 }
 
-/// Puts what the lines say; tells the refused ones.
-fn load(slide: &mut Package, sheet: &[u8]) {
-    for line in lines(sheet) {
-        let mut fields = line.splitn(3, |&byte| byte == b' ');
-        let mut next = || fields.next().unwrap_or_default();
-        let (command, name, rest) = (next(), next(), next());
-        let answer = match command {
-            b"P" => slide.put_item(name, rest),
-            b"X" => slide.drop_item(name),
-            b"D" => slide.put_default(name, rest),
-            b"O" => slide.put_override(name, rest),
-            b"L" => Ok(()),
-            _ => Err(Refusal::UnreadableLine),
-        };
-        if let Err(refusal) = answer {
-            println!("  {} {}: {refusal}", text(command), text(name));
-        }
+/// Puts what a line says; tells if it is refused.
+fn put(slide: &mut Package, line: &[u8]) {
+    let mut fields = line.splitn(3, |&byte| byte == b' ');
+    let mut next = || fields.next().unwrap_or_default();
+    let (command, name, rest) = (next(), next(), next());
+    let answer = match command {
+        b"P" => slide.put_item(name, rest),
+        b"X" => slide.drop_item(name),
+        b"D" => slide.put_default(name, rest),
+        b"O" => slide.put_override(name, rest),
+        b"L" => Ok(()),
+        _ => Err(Refusal::UnreadableLine),
+    };
+    if let Err(refusal) = answer {
+        println!("  {} {}: {refusal}", text(command), text(name));
     }
 }
 
-/// Puts the relationships; tells the refused ones and hands back the others.
-fn load_links<'a>(slide: &mut Package, links: &'a [u8]) -> Vec<Link<'a>> {
-    let mut held = Vec::new();
-    for line in lines(links) {
-        let fields: Vec<&[u8]> = line.split(|&byte| byte == b' ').collect();
-        let link = match fields[..] {
-            [source, id, mode @ (b"internal" | b"external"), target, kind] => Link {
-                source,
-                id,
-                mode: match mode {
-                    b"internal" => Mode::Internal,
-                    _ => Mode::External,
-                },
-                target,
-                kind,
-            },
-            _ => {
-                println!("  {}: no link", text(line));
-                continue;
-            }
-        };
-        match slide.put_relationship(link.source, link.id, link.kind, link.mode, link.target) {
-            Ok(()) => held.push(link),
-            Err(refusal) => println!("  {} {}: {refusal}", text(link.source), text(link.id)),
-        }
+/// Puts a relationship; tells if it is refused.
+fn put_link(slide: &mut Package, line: &[u8]) {
+    let fields: Vec<&[u8]> = line.split(|&byte| byte == b' ').collect();
+    let (source, id, mode, target, kind) = match fields[..] {
+        [source, id, b"internal", target, kind] => (source, id, Mode::Internal, target, kind),
+        [source, id, b"external", target, kind] => (source, id, Mode::External, target, kind),
+        _ => return println!("  {}: no link", text(line)),
+    };
+    if let Err(refusal) = slide.put_relationship(source, id, kind, mode, target) {
+        println!("  {} {}: {refusal}", text(source), text(id));
     }
-    held
 }
 
-/// The parts in folded order, with their pieces, sizes and media types, and
-/// what these come from.
-fn show_parts(slide: PackageRef) -> Result<(), Refusal> {
-    let Totals {
-        items,
-        parts,
-        charge,
-    } = slide.totals()?;
+/// The parts with their media types, sizes, pieces and first bytes.
+fn show_parts(slide: &Package) -> Result<(), Refusal> {
+    let totals = slide.totals()?;
+    let (parts, items, charge) = (totals.parts, totals.items, totals.charge);
     println!("\n{parts} parts of {items} items, {charge} of {CAPACITY} bytes");
-    let mut name = [0; 255];
-    for position in 0..parts as u64 {
-        let length = slide.part_at(position, &mut name)?;
-        let name = &name[..length];
-        let sizes = sizes(slide, name)?;
-        let media_type = media_type(slide, name)?;
-        let bytes: usize = sizes.iter().sum();
-        let shown: Vec<String> = sizes.iter().map(usize::to_string).collect();
+    for part in slide.parts()? {
+        let sizes: Vec<String> = part
+            .items()
+            .map(|item| item.bytes.len().to_string())
+            .collect();
         let pieces = match sizes.len() {
             1 => String::new(),
-            _ => format!(", pieces of {}", shown.join(", ")),
+            _ => format!(", pieces of {}", sizes.join(", ")),
         };
-        println!("  {} ({media_type}): {bytes} bytes{pieces}", text(name));
-        println!("    {}", begin(slide, name)?);
+        let (media_type, bytes) = (media_type(slide, &part)?, part.len());
+        println!("  {part} ({media_type}): {bytes} bytes{pieces}");
+        let content = part.to_vec();
+        println!("    {}", content[..bytes.min(48)].escape_ascii());
     }
     Ok(())
-}
-
-/// The lengths of a part's items: one if it is whole, else of its pieces.
-fn sizes(slide: PackageRef, part: &[u8]) -> Result<Vec<usize>, Refusal> {
-    match slide.find_item(part) {
-        Ok(length) => return Ok(vec![length]),
-        Err(Refusal::NotHeld) => {}
-        Err(refusal) => return Err(refusal),
-    }
-    let mut sizes = Vec::new();
-    loop {
-        let piece = |mark: &str| format!("/[{}]{mark}.piece", sizes.len()).into_bytes();
-        let name = |mark: &str| [part, &piece(mark)].concat();
-        match slide.find_item(&name("")) {
-            Ok(length) => sizes.push(length),
-            // a part has a last piece
-            Err(_) => {
-                let last = slide.find_item(&name(".last"))?;
-                sizes.push(last);
-                return Ok(sizes);
-            }
-        }
-    }
-}
-
-/// The first bytes of a part's content.
-fn begin(slide: PackageRef, part: &[u8]) -> Result<String, Refusal> {
-    let mut out = [0; 48];
-    let length = slide.read_part(part, 0, &mut out)?;
-    Ok(out[..length].escape_ascii().to_string())
 }
 
 /// The media type of a part, and the entry that it comes from.
-fn media_type(slide: PackageRef, part: &[u8]) -> Result<String, Refusal> {
-    let mut key = [0; 255];
-    let origin = match slide.type_origin(part, &mut key)? {
-        TypeOrigin::Override(name) => format!("Override {}", text(name)),
-        TypeOrigin::Default(extension) => format!("Default {}", text(extension)),
+fn media_type(slide: &Package, part: &Part) -> Result<String, Refusal> {
+    let origin = match slide.type_origin_to_string(part.name())? {
+        TypeOrigin::Override(name) => format!("Override {name}"),
+        TypeOrigin::Default(extension) => format!("Default {extension}"),
         TypeOrigin::Neither => return Ok("no type".to_string()),
     };
-    let mut out = [0; 127];
-    let length = slide.media_type(part, &mut out)?;
-    Ok(format!("{} by {origin}", text(&out[..length])))
+    Ok(format!("{} by {origin}", part.media_type()?))
 }
 
 /// Where each link leads, and whether the part is there.
-fn show_links(slide: PackageRef, links: &[Link]) -> Result<(), Refusal> {
+fn show_links(slide: &Package) -> Result<(), Refusal> {
+    let links = slide.relationships()?;
     println!("\n{} links", links.len());
-    let mut out = [0; 1027];
-    for Link { source, id, .. } in links {
-        let Resolved { length, mode, held } =
-            slide.resolve_relationship(source, id, BASE, &mut out)?;
-        let note = match (mode, held) {
+    for link in links {
+        let (source, id) = (link.source, link.id);
+        let target = slide.resolve_relationship_to_string(&source, &id, BASE)?;
+        let note = match (target.mode, target.held) {
             (Mode::External, _) => "outside",
             (Mode::Internal, true) => "held",
             (Mode::Internal, false) => "not held",
         };
-        let leads = text(&out[..length]);
-        println!("  {} {} -> {leads} ({note})", text(source), text(id));
+        println!("  {source} {id} -> {} ({note})", target.iri);
     }
     Ok(())
 }
 
 /// The types, and the relationships of each source, as they are stored.
-fn show_streams(slide: PackageRef, links: &[Link]) -> Result<(), Refusal> {
-    let types = written(|out| slide.write_types(out))?;
-    println!("\nTypes\n{}", text(&types));
-    let mut sources: Vec<&[u8]> = links.iter().map(|link| link.source).collect();
-    sources.dedup();
+fn show_streams(slide: &Package) -> Result<(), Refusal> {
+    println!("\nTypes\n{}", slide.write_types_to_string()?);
+    let mut sources: Vec<String> = slide.relationships()?.map(|link| link.source).collect();
+    sources.dedup_by(|a, b| a.eq_ignore_ascii_case(b));
     for source in sources {
-        let stream = written(|out| slide.write_relationships(source, out))?;
-        println!("Relationships of {}\n{}", text(source), text(&stream));
+        let stream = slide.write_relationships_to_string(&source)?;
+        println!("Relationships of {source}\n{stream}");
     }
     Ok(())
-}
-
-/// What a call writes, into as many bytes as it says it needs.
-fn written(call: impl Fn(&mut [u8]) -> Result<usize, Refusal>) -> Result<Vec<u8>, Refusal> {
-    let mut out = Vec::new();
-    if let Err(Refusal::OutputTooShort { needed }) = call(&mut out) {
-        out.resize(needed, 0);
-    }
-    let length = call(&mut out)?;
-    out.truncate(length);
-    Ok(out)
 }
 
 fn lines(file: &[u8]) -> impl Iterator<Item = &[u8]> {

@@ -1,33 +1,59 @@
-//! Zombirels: names, media types, IRIs and relationships of Open Packaging
-//! packages (ISO/IEC 29500-2).
+//! Zombirels: packages of Open Packaging (ISO/IEC 29500-2), their names, media
+//! types, IRIs and relationships.
 //!
-//! This crate is a thin, safe layer over the engine's static archive. All
-//! calls take byte slices and never fail otherwise than by a [`Refusal`]:
-//! any bytes may be given, and a refused call changes nothing.
+//! A *package* holds *parts*, which have names such as `/slides/t3.tiff`,
+//! content and a media type, and *relationships* between them. A viewer opens
+//! one, goes through its parts and reads them:
 //!
+//! ```
+//! use zombirels::package::{Mode, PackageBuf};
+//!
+//! let mut slide = PackageBuf::start(10_000)?; // or PackageBuf::try_open(bytes)?
+//! slide.put_default("tiff", "image/tiff")?;
+//! slide.put_item("/Tiles/T3.tiff/[1].last.piece", "world")?; // in any order
+//! slide.put_item("/tiles/t3.tiff/[0].piece", "hello ")?; // and any letter case
+//! slide.put_relationship("/", "first", "http://example.com/tile", Mode::Internal, "tiles/t3.tiff")?;
+//!
+//! for part in slide.parts()? {
+//!     println!("{part}: {}, {} bytes", part.media_type()?, part.len());
+//!     assert_eq!(part.to_vec(), b"hello world");
+//! }
+//! for link in slide.relationships_of("/")? {
+//!     println!("{} leads to {} ({})", link.id, link.target, link.mode);
+//! }
+//! # Ok::<(), zombirels::Refusal>(())
+//! ```
+//!
+//! - [`package`] keeps a package in one buffer, lent or owned;
 //! - [`names`] judges, compares and takes apart part names and item names,
 //!   and judges the other fields of a package;
 //! - [`iri`] judges and resolves IRIs, composes and resolves pack IRIs, and
 //!   names the Relationships part of a source;
-//! - [`package`] keeps a package in a buffer that its caller lends;
 //! - [`script`] makes many calls on a package by one.
 //!
-//! ```
-//! use zombirels::names;
+//! This crate is a thin, safe layer over the engine's static archive. A call
+//! takes texts and bytes as whatever is `AsRef<[u8]>`, and never fails
+//! otherwise than by a [`Refusal`]: any bytes may be given, and a refused call
+//! changes nothing. The archive allocates nothing; here the calls whose answer
+//! is a `Vec`, a `String` or an iterator over such do.
 //!
-//! assert!(names::is_part_name(b"/slides/ovary-17/L3.tiff"));
-//! assert!(names::is_equivalent(b"/Left/T3", b"/left/t3"));
-//! let item = names::take_apart(b"/left/t3/[2].last.piece").unwrap();
-//! assert_eq!(item.prefix, b"/left/t3");
-//! assert!(item.piece.unwrap().last);
-//! ```
+//! # Features
+//!
+//! - `std`, a default one: [`PartReader`](package::PartReader), and refusals as
+//!   `std::io::Error`. Without it the crate needs `alloc` alone.
 
-#![warn(missing_docs)]
+#![no_std]
+#![deny(missing_docs)]
+
+extern crate alloc;
+#[cfg(feature = "std")]
+extern crate std;
 
 mod ffi;
 pub mod iri;
 mod lent;
 pub mod names;
+mod owned;
 pub mod package;
 mod refusal;
 pub mod script;

@@ -1,4 +1,4 @@
-//! A package in one lent buffer: items, the parts that they make, their media
+//! A package in one buffer: items, the parts that they make, their media
 //! types, relationships, totals, XML streams.
 //!
 //! An *item* is a name and its bytes. A whole item is a part by itself; the
@@ -14,80 +14,103 @@
 //! A *relationship* leads from a source, a part or the package itself (`/`), to
 //! a target.
 //!
-//! The package lies in the caller's bytes and nowhere else: they may be
-//! stored, mapped or sent, and opened again with [`Package::open`], or with
-//! [`PackageRef::open`] where they can only be read. The engine allocates
-//! nothing.
+//! [`Package`] and [`PackageBuf`] are to each other as `Path` and `PathBuf`. A
+//! package lies in bytes and nowhere else: a `&Package` in those that a caller
+//! lends for reading, such as a mapped file, a `&mut Package` in those that may
+//! be changed as well, a [`PackageBuf`] in its own. They may be stored, mapped
+//! or sent, and opened again. The engine allocates nothing.
 //!
 //! ```
-//! use zombirels::package::{Package, OVERHEAD};
+//! use zombirels::package::PackageBuf;
 //! use zombirels::Refusal;
 //!
-//! let mut buffer = vec![0; 10_000 + OVERHEAD];
-//! let mut slide = Package::start(&mut buffer, 10_000)?;
-//! slide.put_item(b"/Left/T3/[1].last.piece", b"world")?;
-//! slide.put_item(b"/left/t3/[0].piece", b"hello ")?;
-//! assert_eq!(slide.put_item(b"/left", b""), Err(Refusal::Derivable));
-//!
-//! let mut content = [0; 64];
-//! let length = slide.read_part(b"/LEFT/T3", 0, &mut content)?;
-//! assert_eq!(&content[..length], b"hello world");
+//! let mut slide = PackageBuf::start(10_000)?;
+//! slide.put_item("/Left/T3/[1].last.piece", "world")?;
+//! slide.put_item("/left/t3/[0].piece", "hello ")?;
+//! assert_eq!(slide.put_item("/left", ""), Err(Refusal::Derivable));
+//! assert_eq!(slide.read_part_to_vec("/LEFT/T3")?, b"hello world");
 //! # Ok::<(), Refusal>(())
 //! ```
+//!
+//! # Outputs
+//!
+//! A call that writes takes the output as a lent slice and answers how many
+//! bytes it wrote; what stood past these is kept. If the output is too short,
+//! [`Refusal::OutputTooShort`] says how many bytes are needed, and nothing is
+//! written. Beside it stands a call that answers a `Vec` or a `String`, which
+//! has that length at once.
+//!
+//! # Bytes that no calls made
+//!
+//! Damaged bytes, or another's, may pass for a package without being one that
+//! calls made. Every call ends on them, and changes nothing when it refuses,
+//! but what they hold may be odd. A text in them may be no UTF-8: there a call
+//! that answers a `String` is refused by [`Refusal::NotAPackage`]. So is one
+//! that would answer more content than there are bytes.
 
+mod buf;
+mod entries;
 mod items;
+mod limits;
+mod listing;
+mod mode;
 mod origin;
-mod package_ref;
+mod parts;
 mod pieces;
+#[cfg(feature = "std")]
+mod reader;
 mod relationships;
 mod streams;
 mod types;
+mod walk;
 
+pub use buf::{FromBytesError, PackageBuf};
+pub use entries::{Entries, EntryField};
+pub use limits::{
+    buffer_len, CAPACITY_MAX, DEFAULTS_MAX, ITEMS_MAX, OVERHEAD, OVERRIDES_MAX, RELATIONSHIPS_MAX,
+    RELATIONSHIPS_STREAM_MAX, TYPES_STREAM_MAX,
+};
+pub use listing::{
+    DefaultEntry, Defaults, Item, Items, OverrideEntry, Overrides, Relationship, Relationships,
+};
+pub use mode::Mode;
 pub use origin::TypeOrigin;
-pub use package_ref::PackageRef;
 pub use pieces::Cut;
-pub use relationships::{Mode, Resolved};
+#[cfg(feature = "std")]
+pub use reader::PartReader;
+pub use relationships::{Resolved, ResolvedIri};
+pub use walk::{Part, Parts, Unfinished};
 
-use crate::ffi::{self, Reply};
+use crate::ffi;
+use crate::lent::{self, ask};
 use crate::Refusal;
-use std::fmt;
+use core::fmt;
 
-/// What the buffer must have beside the capacity, in bytes.
-pub const OVERHEAD: usize = 32_768;
-
-/// The greatest capacity that [`Package::start`] takes.
-pub const CAPACITY_MAX: u64 = 1_000_000;
-
-/// How many items a package holds at most.
-pub const ITEMS_MAX: usize = 256;
-
-/// How many Defaults a package holds at most.
-pub const DEFAULTS_MAX: usize = 64;
-
-/// How many Overrides a package holds at most.
-pub const OVERRIDES_MAX: usize = 64;
-
-/// How many relationships a package holds at most.
-pub const RELATIONSHIPS_MAX: usize = 256;
-
-/// A package in a lent buffer. For one that is only looked at there is
-/// [`PackageRef`].
-pub struct Package<'a> {
-    pub(crate) buffer: &'a mut [u8],
-}
+/// A package in bytes that are lent: a `&Package` is only looked at, a
+/// `&mut Package` can be changed. [`PackageBuf`] owns one.
+///
+/// ```
+/// use zombirels::package::{buffer_len, Package};
+/// let mut buffer = [0; buffer_len(100)];
+/// let slide = Package::start(&mut buffer, 100)?;
+/// slide.put_item("/T3.tiff", "tile")?;
+///
+/// let stored: &[u8] = &buffer;
+/// let slide = Package::open(stored);
+/// assert_eq!(slide.totals()?.parts, 1);
+/// assert_eq!(slide.view_item("/t3.tiff"), Some(&b"tile"[..]));
+/// # Ok::<(), zombirels::Refusal>(())
+/// ```
+#[repr(transparent)]
+pub struct Package([u8]);
 
 /// Shows the length of the buffer, not its bytes.
-impl fmt::Debug for Package<'_> {
+impl fmt::Debug for Package {
     fn fmt(&self, f: &mut fmt::Formatter<'_>) -> fmt::Result {
-        show(f, "Package", self.buffer)
+        f.debug_struct("Package")
+            .field("length", &self.0.len())
+            .finish_non_exhaustive()
     }
-}
-
-/// A lent buffer by its length.
-fn show(f: &mut fmt::Formatter<'_>, name: &str, buffer: &[u8]) -> fmt::Result {
-    f.debug_struct(name)
-        .field("length", &buffer.len())
-        .finish_non_exhaustive()
 }
 
 /// What [`Package::totals`] answers.
@@ -101,46 +124,102 @@ pub struct Totals {
     pub charge: usize,
 }
 
-/// What [`Package::entry_at`] answers.
-#[derive(Clone, Copy, Debug, PartialEq, Eq, Hash)]
-pub struct EntryField {
-    /// How many bytes of the output are the field.
-    pub length: usize,
-    /// How many entries the set has.
-    pub entries: usize,
-}
-
-impl<'a> Package<'a> {
+impl Package {
     /// Makes an empty package of `buffer`, whatever it held. `capacity` is the
     /// greatest charge that the package takes.
     ///
     /// # Errors
     ///
     /// [`Refusal::BadStart`] if `capacity` is above [`CAPACITY_MAX`] or the
-    /// buffer has less than `capacity` + [`OVERHEAD`] bytes; these are as they
+    /// buffer has less than [`buffer_len`]`(capacity)` bytes; these are as they
     /// were.
-    pub fn start(buffer: &'a mut [u8], capacity: u64) -> Result<Package<'a>, Refusal> {
-        let mut package = Package { buffer };
+    pub fn start(buffer: &mut [u8], capacity: u64) -> Result<&mut Package, Refusal> {
+        let package = Package::open_mut(buffer);
         package.restart(capacity)?;
         Ok(package)
     }
 
-    /// Takes `buffer` for a package that was started in it before. Nothing is
-    /// looked at yet: if it is none, every call but [`Package::restart`] is
-    /// refused by [`Refusal::NotAPackage`].
+    /// Takes `buffer` for a package that was started in it before, to be
+    /// looked at. It isn't looked at yet: if it is none, every call is refused
+    /// by [`Refusal::NotAPackage`].
     ///
     /// ```
-    /// use zombirels::package::{Package, OVERHEAD};
-    /// let mut buffer = vec![0; 100 + OVERHEAD];
-    /// Package::start(&mut buffer, 100)?.put_item(b"/a", b"tile")?;
-    /// let mut stored = buffer.clone();
-    /// assert_eq!(Package::open(&mut stored).find_item(b"/A"), Ok(4));
-    /// assert!(Package::open(&mut [0; 100]).totals().is_err());
+    /// use zombirels::package::{Package, PackageBuf};
+    /// let mut slide = PackageBuf::start(100)?;
+    /// slide.put_item("/a", "tile")?;
+    /// let stored = slide.into_bytes();
+    /// assert_eq!(Package::open(&stored).find_item("/A"), Ok(4));
+    /// assert!(Package::open(&[0; 100]).totals().is_err());
     /// # Ok::<(), zombirels::Refusal>(())
     /// ```
     #[must_use]
-    pub fn open(buffer: &'a mut [u8]) -> Package<'a> {
-        Package { buffer }
+    pub const fn open(buffer: &[u8]) -> &Package {
+        // SAFETY: `Package` is transparent over `[u8]` and takes any bytes, so
+        // that the pointer is one to a `Package` of the same bytes and life.
+        unsafe { &*(core::ptr::from_ref(buffer) as *const Package) }
+    }
+
+    /// As [`Package::open`], to be changed as well. Of bytes that are no
+    /// package [`Package::restart`] makes one.
+    ///
+    /// ```
+    /// use zombirels::package::{buffer_len, Package};
+    /// let mut buffer = vec![0; buffer_len(100)];
+    /// Package::open_mut(&mut buffer).restart(100)?;
+    /// assert_eq!(Package::open_mut(&mut buffer).put_item("/a", ""), Ok(()));
+    /// # Ok::<(), zombirels::Refusal>(())
+    /// ```
+    #[must_use]
+    pub fn open_mut(buffer: &mut [u8]) -> &mut Package {
+        // SAFETY: as in `open`; the bytes are lent for writing, and stay bytes
+        // whatever is written.
+        unsafe { &mut *(core::ptr::from_mut(buffer) as *mut Package) }
+    }
+
+    /// As [`Package::open`], of a package alone.
+    ///
+    /// # Errors
+    ///
+    /// [`Refusal::NotAPackage`].
+    ///
+    /// ```
+    /// use zombirels::package::{Package, PackageBuf};
+    /// use zombirels::Refusal;
+    /// let slide = PackageBuf::start(100)?;
+    /// assert!(Package::try_open(slide.as_bytes()).is_ok());
+    /// let none = Package::try_open(b"no package").map(drop);
+    /// assert_eq!(none, Err(Refusal::NotAPackage));
+    /// # Ok::<(), Refusal>(())
+    /// ```
+    pub fn try_open(buffer: &[u8]) -> Result<&Package, Refusal> {
+        let package = Package::open(buffer);
+        package.check().map(|()| package)
+    }
+
+    /// As [`Package::open_mut`], of a package alone.
+    ///
+    /// # Errors
+    ///
+    /// [`Refusal::NotAPackage`].
+    ///
+    /// ```
+    /// use zombirels::package::{Package, PackageBuf};
+    /// let mut stored = PackageBuf::start(100)?.into_bytes();
+    /// Package::try_open_mut(&mut stored)?.put_item("/a", "tile")?;
+    /// assert!(Package::try_open_mut(&mut stored[1..]).is_err());
+    /// # Ok::<(), zombirels::Refusal>(())
+    /// ```
+    pub fn try_open_mut(buffer: &mut [u8]) -> Result<&mut Package, Refusal> {
+        let package = Package::open_mut(buffer);
+        package.check().map(|()| package)
+    }
+
+    /// Refuses what is no package. Of one, no item has an empty name.
+    pub(crate) fn check(&self) -> Result<(), Refusal> {
+        match self.find_item("") {
+            Err(Refusal::NotAPackage) => Err(Refusal::NotAPackage),
+            _ => Ok(()),
+        }
     }
 
     /// Empties the package and gives it another capacity.
@@ -149,28 +228,21 @@ impl<'a> Package<'a> {
     ///
     /// As [`Package::start`]; everything that was held still is.
     pub fn restart(&mut self, capacity: u64) -> Result<(), Refusal> {
-        // SAFETY: pointer and length come from one slice, lent for writing.
-        let reply =
-            unsafe { ffi::opc_start(self.buffer.as_mut_ptr(), self.buffer.len(), capacity) };
-        done(reply)
+        lent::start(&mut self.0, capacity).done()
     }
 
-    /// The package as one that is only looked at.
+    /// The package's bytes.
     #[must_use]
-    pub fn as_package_ref(&self) -> PackageRef<'_> {
-        PackageRef::open(self.buffer)
+    pub const fn as_bytes(&self) -> &[u8] {
+        &self.0
     }
 
-    /// The lent bytes.
+    /// The package's bytes, to be overwritten. If they are no package then,
+    /// every call but [`Package::restart`] is refused by
+    /// [`Refusal::NotAPackage`].
     #[must_use]
-    pub fn as_bytes(&self) -> &[u8] {
-        self.buffer
-    }
-
-    /// Gives the lent bytes back.
-    #[must_use]
-    pub fn into_bytes(self) -> &'a mut [u8] {
-        self.buffer
+    pub fn as_bytes_mut(&mut self) -> &mut [u8] {
+        &mut self.0
     }
 
     /// How many items are held, how many parts they make, and the charge.
@@ -180,45 +252,19 @@ impl<'a> Package<'a> {
     /// [`Refusal::NotAPackage`].
     ///
     /// ```
-    /// use zombirels::package::{Package, Totals, OVERHEAD};
-    /// let mut buffer = vec![0; 100 + OVERHEAD];
-    /// let mut slide = Package::start(&mut buffer, 100)?;
-    /// slide.put_item(b"/t3", b"tile")?;
+    /// use zombirels::package::{PackageBuf, Totals};
+    /// let mut slide = PackageBuf::start(100)?;
+    /// slide.put_item("/t3", "tile")?;
     /// let totals = Totals { items: 1, parts: 1, charge: 7 };
     /// assert_eq!(slide.totals(), Ok(totals));
     /// # Ok::<(), zombirels::Refusal>(())
     /// ```
     pub fn totals(&self) -> Result<Totals, Refusal> {
-        self.as_package_ref().totals()
+        let [items, parts, charge] = ask(ffi::opc_totals, &self.0).values()?;
+        Ok(Totals {
+            items,
+            parts,
+            charge,
+        })
     }
-
-    /// Copies a field of the entry at a position, from 0, of a set, in the
-    /// order of its keys.
-    ///
-    /// | set | entries | fields |
-    /// |---|---|---|
-    /// | 0 | items | 0 name, 1 bytes |
-    /// | 1 | Defaults | 0 extension, 1 media type |
-    /// | 2 | Overrides | 0 part name, 1 media type |
-    /// | 3 | relationships | 0 source, 1 id, 2 type, 3 mode (one byte, 0 or 1), 4 target |
-    ///
-    /// # Errors
-    ///
-    /// [`Refusal::NotAPackage`]; [`Refusal::BadRelationshipField`] if there is
-    /// no such set or field; [`Refusal::NotHeld`] past the last entry;
-    /// [`Refusal::OutputTooShort`].
-    pub fn entry_at(
-        &self,
-        set: u64,
-        position: u64,
-        field: u64,
-        out: &mut [u8],
-    ) -> Result<EntryField, Refusal> {
-        self.as_package_ref().entry_at(set, position, field, out)
-    }
-}
-
-/// The answer of a call that names no value: it answers 0 in its place.
-fn done(reply: Reply) -> Result<(), Refusal> {
-    reply.values().map(|[_]| ())
 }

@@ -1,5 +1,5 @@
 use crate::ffi::Reply;
-use std::fmt;
+use core::fmt;
 
 /// Why a call is refused.
 ///
@@ -99,12 +99,21 @@ impl Refusal {
         }
     }
 
-    /// The refusal with that number, if there is one.
-    fn from_number(number: u64, needed: usize) -> Option<Refusal> {
+    /// The refusal with that number, if there is one. That an output is too
+    /// short comes with a `needed` of 0: the number doesn't tell it.
+    ///
+    /// ```
+    /// use zombirels::Refusal;
+    /// assert_eq!(Refusal::from_number(13), Some(Refusal::NotHeld));
+    /// assert_eq!(Refusal::NotHeld.number(), 13);
+    /// assert_eq!(Refusal::from_number(0), None);
+    /// ```
+    #[must_use]
+    pub fn from_number(number: u64) -> Option<Refusal> {
         Some(match number {
             1 => Refusal::NotAPackage,
             2 => Refusal::BadStart,
-            3 => Refusal::OutputTooShort { needed },
+            3 => Refusal::OutputTooShort { needed: 0 },
             4 => Refusal::NotAPartName,
             5 => Refusal::Reserved,
             6 => Refusal::BadSuffix,
@@ -135,7 +144,30 @@ impl fmt::Display for Refusal {
     }
 }
 
-impl std::error::Error for Refusal {}
+impl core::error::Error for Refusal {}
+
+/// An error of the kind that comes next to the refusal, which is its source.
+///
+/// ```
+/// use std::io;
+/// use zombirels::Refusal;
+/// let error = io::Error::from(Refusal::NotHeld);
+/// assert_eq!(error.kind(), io::ErrorKind::NotFound);
+/// assert_eq!(error.to_string(), "not held (refusal 13)");
+/// ```
+#[cfg(feature = "std")]
+impl From<Refusal> for std::io::Error {
+    fn from(refusal: Refusal) -> std::io::Error {
+        use std::io::{Error, ErrorKind};
+        let kind = match refusal {
+            Refusal::NotAPackage => ErrorKind::InvalidData,
+            Refusal::NotHeld | Refusal::NoMediaType => ErrorKind::NotFound,
+            Refusal::Taken => ErrorKind::AlreadyExists,
+            _ => ErrorKind::InvalidInput,
+        };
+        Error::new(kind, refusal)
+    }
+}
 
 impl Reply {
     /// The values of an accepted call, of which `N` must count, or the refusal.
@@ -149,29 +181,47 @@ impl Reply {
         };
         let unused = &values[used..];
         assert!(unused.iter().all(|&value| value == 0), "an unnamed value");
-        if self.number != 0 {
-            let refusal = Refusal::from_number(self.number, self.first as usize);
-            return Err(refusal.expect("the archive knows only refusals 1 to 18"));
+        let needed = self.first as usize;
+        match Refusal::from_number(self.number) {
+            Some(Refusal::OutputTooShort { .. }) => Err(Refusal::OutputTooShort { needed }),
+            Some(refusal) => Err(refusal),
+            None => {
+                let known = self.number == 0;
+                assert!(known, "the archive knows only refusals 1 to 18");
+                assert_eq!(self.count, N as u64, "values in the archive's answer");
+                Ok(core::array::from_fn(|i| values[i] as usize))
+            }
         }
-        assert_eq!(self.count, N as u64, "values in the archive's answer");
-        Ok(std::array::from_fn(|i| values[i] as usize))
+    }
+
+    /// The answer of a call that names one value.
+    pub(crate) fn value(self) -> Result<usize, Refusal> {
+        self.values().map(|[value]| value)
+    }
+
+    /// The answer of a call that names no value: it answers 0 in its place.
+    pub(crate) fn done(self) -> Result<(), Refusal> {
+        self.value().map(drop)
     }
 }
 
 #[cfg(test)]
 mod tests {
     use super::*;
+    use alloc::format;
+    use alloc::string::ToString;
 
     #[test]
     fn numbers_go_forth_and_back() {
         for number in 1..=18 {
-            let refusal = Refusal::from_number(number, 7).unwrap();
+            let refusal = Refusal::from_number(number).unwrap();
             assert_eq!(u64::from(refusal.number()), number);
             let text = refusal.to_string();
             assert!(text.ends_with(&format!("(refusal {number})")), "{text}");
         }
-        assert_eq!(Refusal::from_number(0, 0), None);
-        assert_eq!(Refusal::from_number(19, 0), None);
+        assert_eq!(Refusal::from_number(0), None);
+        assert_eq!(Refusal::from_number(19), None);
+        assert_eq!(Refusal::from_number((1 << 32) + 1), None);
     }
 
     #[test]

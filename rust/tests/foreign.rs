@@ -9,7 +9,7 @@ mod support;
 use foreign::{Call, Header, Share, CALLS, HEADERS, KINDS};
 use std::collections::BTreeMap;
 use support::entries::{told, Ask};
-use zombirels::package::{Package, PackageRef};
+use zombirels::package::Package;
 use zombirels::Refusal;
 
 /// The bytes of the heap: far more than a package uses.
@@ -20,7 +20,7 @@ const OUTPUT: usize = 6_000_000;
 /// The number of a call's answer. The package and the output are then what
 /// they were before it.
 fn number(buffer: &[u8], package: &mut [u8], call: Call, out: &mut [u8]) -> u8 {
-    let answer = call(&mut Package::open(package), out);
+    let answer = call(Package::open_mut(package), out);
     let number = answer.map_or_else(|refusal| refusal.number(), |()| 0);
     assert!(number <= 18 && number != 1, "{number}");
     if number == 0 {
@@ -68,7 +68,7 @@ fn streams_by_the_bytes_in_use() {
         for (used, expected) in [(used, None), (used - 1, Some(Refusal::NotHeld))] {
             let header = Header { used, ..HEADERS[0] };
             let buffer = foreign::buffer(kind, header, Share::Used, HEAP);
-            let package = PackageRef::open(&buffer);
+            let package = Package::open(&buffer);
             let mut out = vec![7; OUTPUT];
             let answer = match kind.what {
                 "types" => package.write_types(&mut out),

@@ -18,7 +18,7 @@ fn examples() {
     let refused = Package::start(&mut buffer, 30_001).map_err(numbers);
     assert_eq!(refused.err(), Some((2, 0)));
     assert!(buffer.iter().all(|&byte| byte == 0));
-    let mut package = Package::start(&mut buffer, 30_000).expect("room");
+    let package = Package::start(&mut buffer, 30_000).expect("room");
     for (name, bytes, number) in [
         ("/a.xml", "hello", 0),
         ("/A.XML", "", 10),
@@ -55,7 +55,7 @@ fn types_with_parameters() {
     let (camera, longest) = (b"image/tiff;page=2", longest_type());
     let capacity = (4 + 1) + (1 + 17) + (2 + 127);
     let mut buffer = vec![0; capacity + OVERHEAD];
-    let mut package = Package::start(&mut buffer, capacity as u64).expect("room");
+    let package = Package::start(&mut buffer, capacity as u64).expect("room");
     package.put_item(b"/a.t", b"x").expect("room");
     package.put_default(b"t", camera).expect("room");
     let mut out = [7; 600];
@@ -82,7 +82,7 @@ fn types_with_parameters() {
 #[test]
 fn types_with_odd_parameters() {
     let mut buffer = vec![0; 1000 + OVERHEAD];
-    let mut package = Package::start(&mut buffer, 1000).expect("room");
+    let package = Package::start(&mut buffer, 1000).expect("room");
     package.put_override(b"/a", b"a/b;c=d").expect("room");
     let before = package.as_bytes().to_vec();
     let too_long = [&longest_type()[..], b"x"].concat();
@@ -110,8 +110,8 @@ fn types_with_odd_parameters() {
 #[test]
 fn shown_by_length() {
     let mut buffer = [1, 2, 3];
-    let package = Package::open(&mut buffer);
+    let package = Package::open_mut(&mut buffer);
     assert_eq!(format!("{package:?}"), "Package { length: 3, .. }");
-    let package = package.as_package_ref();
-    assert_eq!(format!("{package:?}"), "PackageRef { length: 3, .. }");
+    let package = package.to_owned();
+    assert_eq!(format!("{package:?}"), "PackageBuf { length: 3, .. }");
 }

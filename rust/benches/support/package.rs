@@ -18,7 +18,7 @@ pub enum Change {
 
 /// Both sides with the same items.
 pub struct Pair<'a> {
-    pub package: Package<'a>,
+    pub package: &'a mut Package,
     pub ledger: Ledger,
 }
 

@@ -1,29 +1,30 @@
 //! Which entry a part's media type comes from.
 
 use super::Package;
+use crate::ffi;
+use crate::lent::write_two;
+use crate::names::PART_NAME_MAX;
+use crate::owned;
 use crate::Refusal;
+use alloc::string::String;
 
 /// The entry that a part's media type comes from, with its key as it was
-/// spelled when it was put. The key lies in the lent output.
+/// spelled when it was put: `&[u8]` in a lent output, or a `String`.
 #[derive(Clone, Copy, Debug, PartialEq, Eq, Hash)]
-pub enum TypeOrigin<'o> {
+pub enum TypeOrigin<K> {
     /// The Override of this name.
-    Override(&'o [u8]),
+    Override(K),
     /// The Default of this extension; the part has no Override.
-    Default(&'o [u8]),
+    Default(K),
     /// No entry: the part has no media type.
     Neither,
 }
 
-impl<'o> TypeOrigin<'o> {
-    /// From the two values of the archive's answer, and the output.
-    pub(crate) fn from_values([kind, length]: [usize; 2], out: &'o [u8]) -> TypeOrigin<'o> {
-        let key = &out[..length];
+impl<K> TypeOrigin<K> {
+    /// From the number of the kind.
+    fn new(kind: usize, key: K) -> TypeOrigin<K> {
         match kind {
-            0 => {
-                assert!(key.is_empty(), "no entry, no key");
-                TypeOrigin::Neither
-            }
+            0 => TypeOrigin::Neither,
             1 => TypeOrigin::Default(key),
             2 => TypeOrigin::Override(key),
             _ => unreachable!("the archive has three kinds"),
@@ -33,7 +34,7 @@ impl<'o> TypeOrigin<'o> {
     /// The number of the kind: 2 for an Override, 1 for a Default, 0 for
     /// neither.
     #[must_use]
-    pub fn number(self) -> u64 {
+    pub fn number(&self) -> u64 {
         match self {
             TypeOrigin::Override(_) => 2,
             TypeOrigin::Default(_) => 1,
@@ -43,7 +44,7 @@ impl<'o> TypeOrigin<'o> {
 
     /// The key of the entry: an Override's name or a Default's extension.
     #[must_use]
-    pub fn key(self) -> Option<&'o [u8]> {
+    pub fn key(self) -> Option<K> {
         match self {
             TypeOrigin::Override(key) | TypeOrigin::Default(key) => Some(key),
             TypeOrigin::Neither => None,
@@ -51,13 +52,21 @@ impl<'o> TypeOrigin<'o> {
     }
 }
 
-impl Package<'_> {
+impl<'o> TypeOrigin<&'o [u8]> {
+    /// From the two values of the archive's answer, and the output.
+    pub(crate) fn from_values([kind, length]: [usize; 2], out: &'o [u8]) -> TypeOrigin<&'o [u8]> {
+        assert!(kind != 0 || length == 0, "no entry, no key");
+        TypeOrigin::new(kind, &out[..length])
+    }
+}
+
+impl Package {
     /// Tells which entry a part's media type comes from: its Override, else
     /// the Default of its extension, else neither, just where
     /// [`Package::media_type`] is refused by [`Refusal::NoMediaType`]. The
-    /// entry's key is copied as it was spelled when it was put. 255 bytes
-    /// always suffice, and none are needed where there is no entry; what stood
-    /// past the key is kept.
+    /// entry's key is copied as it was spelled when it was put.
+    /// [`PART_NAME_MAX`] bytes always suffice, and none are needed where there
+    /// is no entry; what stood past the key is kept.
     ///
     /// # Errors
     ///
@@ -66,33 +75,68 @@ impl Package<'_> {
     /// [`Refusal::OutputTooShort`] for the key.
     ///
     /// ```
-    /// use zombirels::package::{Package, TypeOrigin, OVERHEAD};
+    /// use zombirels::names::PART_NAME_MAX;
+    /// use zombirels::package::{PackageBuf, TypeOrigin};
     /// use zombirels::Refusal;
-    /// let mut buffer = vec![0; 100 + OVERHEAD];
-    /// let mut slide = Package::start(&mut buffer, 100)?;
-    /// slide.put_item(b"/t3.tiff", b"tile")?;
-    /// let mut out = [0; 255];
-    /// let origin = slide.type_origin(b"/t3.tiff", &mut out)?;
+    /// let mut slide = PackageBuf::start(100)?;
+    /// slide.put_item("/t3.tiff", "tile")?;
+    /// let mut out = [0; PART_NAME_MAX];
+    /// let origin = slide.type_origin("/t3.tiff", &mut out)?;
     /// assert_eq!(origin, TypeOrigin::Neither);
     ///
-    /// slide.put_default(b"TIFF", b"image/tiff")?;
-    /// let origin = slide.type_origin(b"/t3.tiff", &mut out)?;
-    /// assert_eq!(origin, TypeOrigin::Default(b"TIFF"));
+    /// slide.put_default("TIFF", "image/tiff")?;
+    /// let origin = slide.type_origin("/t3.tiff", &mut out)?;
+    /// assert_eq!(origin, TypeOrigin::Default(&b"TIFF"[..]));
     ///
-    /// slide.put_override(b"/T3.tiff", b"image/tiff;page=2")?;
-    /// let origin = slide.type_origin(b"/t3.tiff", &mut out)?;
-    /// assert_eq!(origin, TypeOrigin::Override(b"/T3.tiff"));
+    /// slide.put_override("/T3.tiff", "image/tiff;page=2")?;
+    /// let origin = slide.type_origin("/t3.tiff", &mut out)?;
+    /// assert_eq!(origin, TypeOrigin::Override(&b"/T3.tiff"[..]));
     /// assert_eq!(origin.key(), Some(&b"/T3.tiff"[..]));
     ///
-    /// let short = slide.type_origin(b"/t3.tiff", &mut out[..7]);
+    /// let short = slide.type_origin("/t3.tiff", &mut out[..7]);
     /// assert_eq!(short, Err(Refusal::OutputTooShort { needed: 8 }));
     /// # Ok::<(), Refusal>(())
     /// ```
     pub fn type_origin<'o>(
         &self,
-        name: &[u8],
+        name: impl AsRef<[u8]>,
         out: &'o mut [u8],
-    ) -> Result<TypeOrigin<'o>, Refusal> {
-        self.as_package_ref().type_origin(name, out)
+    ) -> Result<TypeOrigin<&'o [u8]>, Refusal> {
+        let values = self.origin(name.as_ref(), out)?;
+        Ok(TypeOrigin::from_values(values, out))
+    }
+
+    /// Tells which entry a part's media type comes from, with its key.
+    ///
+    /// # Errors
+    ///
+    /// As [`Package::type_origin`], but for the output;
+    /// [`Refusal::NotAPackage`] if the key is no text.
+    ///
+    /// ```
+    /// use zombirels::package::{PackageBuf, TypeOrigin};
+    /// let mut slide = PackageBuf::start(100)?;
+    /// slide.put_item("/t3.tiff", "tile")?;
+    /// slide.put_default("TIFF", "image/tiff")?;
+    /// let origin = slide.type_origin_to_string("/t3.tiff")?;
+    /// assert_eq!(origin, TypeOrigin::Default("TIFF".to_string()));
+    /// # Ok::<(), zombirels::Refusal>(())
+    /// ```
+    pub fn type_origin_to_string(
+        &self,
+        name: impl AsRef<[u8]>,
+    ) -> Result<TypeOrigin<String>, Refusal> {
+        let (name, mut kind) = (name.as_ref(), 0);
+        let key = owned::to_string(PART_NAME_MAX, |out| {
+            let [found, length] = self.origin(name, out)?;
+            kind = found;
+            Ok(length)
+        })?;
+        Ok(TypeOrigin::new(kind, key))
+    }
+
+    /// The number of the kind, and the length of the key.
+    fn origin(&self, name: &[u8], out: &mut [u8]) -> Result<[usize; 2], Refusal> {
+        write_two(ffi::opc_type_origin, &self.0, name, out).values()
     }
 }

@@ -1,8 +1,8 @@
 //! Parts cut into pieces, and joined again.
 
-use super::{done, Package};
+use super::Package;
 use crate::ffi;
-use crate::lent::change;
+use crate::lent::{self, change};
 use crate::Refusal;
 
 /// What [`Package::cut_part`] answers: a part of L bytes cut into n pieces has
@@ -15,7 +15,7 @@ pub struct Cut {
     pub longer: usize,
 }
 
-impl Package<'_> {
+impl Package {
     /// Cuts a whole part into so many pieces, 1 to 256, of about the same
     /// size. They take the part's spelling and the numbers from 0 on; the
     /// final one is the last piece. If the part has fewer bytes than it gets
@@ -31,37 +31,23 @@ impl Package<'_> {
     /// part.
     ///
     /// ```
-    /// use zombirels::package::{Cut, Package, OVERHEAD};
+    /// use zombirels::package::{Cut, PackageBuf};
     /// use zombirels::Refusal;
-    /// let mut buffer = vec![0; 100 + OVERHEAD];
-    /// let mut slide = Package::start(&mut buffer, 100)?;
-    /// slide.put_item(b"/T3", b"0123456789")?;
-    /// assert_eq!(slide.cut_part(b"/t3", 0), Err(Refusal::BadPieceCount));
+    /// let mut slide = PackageBuf::start(100)?;
+    /// slide.put_item("/T3", "0123456789")?;
+    /// assert_eq!(slide.cut_part("/t3", 0), Err(Refusal::BadPieceCount));
     ///
-    /// assert_eq!(slide.cut_part(b"/t3", 4)?, Cut { size: 2, longer: 2 });
-    /// assert_eq!(slide.view_item(b"/t3/[0].piece"), b"012");
-    /// assert_eq!(slide.view_item(b"/t3/[1].piece"), b"345");
-    /// assert_eq!(slide.view_item(b"/t3/[2].piece"), b"67");
-    /// assert_eq!(slide.view_item(b"/t3/[3].last.piece"), b"89");
-    /// assert_eq!(slide.cut_part(b"/t3", 4), Err(Refusal::WrongForm));
-    ///
-    /// let mut out = [0; 10];
-    /// assert_eq!(slide.read_part(b"/t3", 0, &mut out), Ok(10));
-    /// assert_eq!(&out, b"0123456789");
+    /// assert_eq!(slide.cut_part("/t3", 4)?, Cut { size: 2, longer: 2 });
+    /// assert_eq!(slide.view_item("/t3/[0].piece"), Some(&b"012"[..]));
+    /// assert_eq!(slide.view_item("/t3/[1].piece"), Some(&b"345"[..]));
+    /// assert_eq!(slide.view_item("/t3/[2].piece"), Some(&b"67"[..]));
+    /// assert_eq!(slide.view_item("/t3/[3].last.piece"), Some(&b"89"[..]));
+    /// assert_eq!(slide.cut_part("/t3", 4), Err(Refusal::WrongForm));
+    /// assert_eq!(slide.read_part_to_vec("/t3")?, b"0123456789");
     /// # Ok::<(), Refusal>(())
     /// ```
-    pub fn cut_part(&mut self, name: &[u8], pieces: u64) -> Result<Cut, Refusal> {
-        // SAFETY: each pointer and its length come from one slice; the
-        // package's is lent for writing.
-        let reply = unsafe {
-            ffi::opc_cut_part(
-                self.buffer.as_mut_ptr(),
-                self.buffer.len(),
-                name.as_ptr(),
-                name.len(),
-                pieces,
-            )
-        };
+    pub fn cut_part(&mut self, name: impl AsRef<[u8]>, pieces: u64) -> Result<Cut, Refusal> {
+        let reply = lent::cut_part(&mut self.0, name.as_ref(), pieces);
         reply.values().map(|[size, longer]| Cut { size, longer })
     }
 
@@ -77,21 +63,20 @@ impl Package<'_> {
     /// [`Refusal::WrongForm`] if it is whole.
     ///
     /// ```
-    /// use zombirels::package::{Package, OVERHEAD};
+    /// use zombirels::package::PackageBuf;
     /// use zombirels::Refusal;
-    /// let mut buffer = vec![0; 100 + OVERHEAD];
-    /// let mut slide = Package::start(&mut buffer, 100)?;
-    /// slide.put_item(b"/t3/[1].last.piece", b"world")?;
-    /// assert_eq!(slide.join_part(b"/t3"), Err(Refusal::NotHeld));
-    /// slide.put_item(b"/T3/[0].piece", b"hello ")?;
+    /// let mut slide = PackageBuf::start(100)?;
+    /// slide.put_item("/t3/[1].last.piece", "world")?;
+    /// assert_eq!(slide.join_part("/t3"), Err(Refusal::NotHeld));
+    /// slide.put_item("/T3/[0].piece", "hello ")?;
     ///
-    /// slide.join_part(b"/t3")?;
-    /// assert_eq!(slide.view_item(b"/t3"), b"hello world");
+    /// slide.join_part("/t3")?;
+    /// assert_eq!(slide.view_item("/t3"), Some(&b"hello world"[..]));
     /// assert_eq!(slide.totals()?.charge, 3 + 11);
-    /// assert_eq!(slide.join_part(b"/t3"), Err(Refusal::WrongForm));
+    /// assert_eq!(slide.join_part("/t3"), Err(Refusal::WrongForm));
     /// # Ok::<(), Refusal>(())
     /// ```
-    pub fn join_part(&mut self, name: &[u8]) -> Result<(), Refusal> {
-        done(change(ffi::opc_join_part, self.buffer, name))
+    pub fn join_part(&mut self, name: impl AsRef<[u8]>) -> Result<(), Refusal> {
+        change(ffi::opc_join_part, &mut self.0, name.as_ref()).done()
     }
 }

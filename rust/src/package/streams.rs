@@ -1,13 +1,17 @@
 //! The XML streams.
 
-use super::Package;
+use super::{Package, RELATIONSHIPS_STREAM_MAX, TYPES_STREAM_MAX};
+use crate::ffi;
+use crate::lent::{write, write_two};
+use crate::owned;
 use crate::Refusal;
+use alloc::string::String;
 
-impl Package<'_> {
+impl Package {
     /// Writes the Media Types stream, the Defaults and then the Overrides in
     /// folded order, and answers its length. Values stand as they were given,
     /// `&` as `&amp;`. If `out` is too short, the refusal carries the length
-    /// that is needed.
+    /// that is needed; [`TYPES_STREAM_MAX`] bytes always suffice.
     ///
     /// # Errors
     ///
@@ -16,32 +20,46 @@ impl Package<'_> {
     /// [`Refusal::OutputTooShort`].
     ///
     /// ```
-    /// use zombirels::package::{Package, OVERHEAD};
-    /// use zombirels::Refusal;
-    /// let mut buffer = vec![0; 100 + OVERHEAD];
-    /// let mut slide = Package::start(&mut buffer, 100)?;
-    /// slide.put_override(b"/R&D.xml", b"text/xml")?;
-    /// slide.put_default(b"tiff", b"image/tiff;page=2")?;
-    /// let Err(Refusal::OutputTooShort { needed }) = slide.write_types(&mut []) else {
-    ///     panic!("no output");
-    /// };
-    /// let mut out = vec![0; needed];
-    /// assert_eq!(slide.write_types(&mut out)?, needed);
-    /// let lines: Vec<&str> = std::str::from_utf8(&out).unwrap().lines().collect();
+    /// use zombirels::package::{PackageBuf, TYPES_STREAM_MAX};
+    /// let mut slide = PackageBuf::start(100)?;
+    /// slide.put_default("tiff", "image/tiff")?;
+    /// let mut out = vec![0; TYPES_STREAM_MAX];
+    /// let length = slide.write_types(&mut out)?;
+    /// assert!(out[..length].ends_with(b"</Types>\n"));
+    /// # Ok::<(), zombirels::Refusal>(())
+    /// ```
+    pub fn write_types(&self, out: &mut [u8]) -> Result<usize, Refusal> {
+        write(ffi::opc_write_types, &self.0, out).value()
+    }
+
+    /// The Media Types stream.
+    ///
+    /// # Errors
+    ///
+    /// As [`Package::write_types`], but for the output;
+    /// [`Refusal::NotAPackage`] if it is no text.
+    ///
+    /// ```
+    /// use zombirels::package::PackageBuf;
+    /// let mut slide = PackageBuf::start(100)?;
+    /// slide.put_override("/R&D.xml", "text/xml")?;
+    /// slide.put_default("tiff", "image/tiff;page=2")?;
+    /// let types = slide.write_types_to_string()?;
+    /// let lines: Vec<&str> = types.lines().collect();
     /// assert_eq!(lines[0], r#"<?xml version="1.0" encoding="UTF-8"?>"#);
     /// assert_eq!(lines[2], r#"<Default Extension="tiff" ContentType="image/tiff;page=2"/>"#);
     /// assert_eq!(lines[3], r#"<Override PartName="/R&amp;D.xml" ContentType="text/xml"/>"#);
     /// assert_eq!(lines[4], "</Types>");
-    /// # Ok::<(), Refusal>(())
+    /// # Ok::<(), zombirels::Refusal>(())
     /// ```
-    pub fn write_types(&self, out: &mut [u8]) -> Result<usize, Refusal> {
-        self.as_package_ref().write_types(out)
+    pub fn write_types_to_string(&self) -> Result<String, Refusal> {
+        owned::to_string(TYPES_STREAM_MAX, |out| self.write_types(out))
     }
 
     /// Writes the Relationships part of a source, its relationships by id, and
     /// answers its length. A source without relationships, held or not, gets
     /// no entry lines. If `out` is too short, the refusal carries the length
-    /// that is needed.
+    /// that is needed; [`RELATIONSHIPS_STREAM_MAX`] bytes always suffice.
     ///
     /// # Errors
     ///
@@ -50,14 +68,38 @@ impl Package<'_> {
     /// [`Package::write_types`]; [`Refusal::OutputTooShort`].
     ///
     /// ```
-    /// use zombirels::package::{Mode, Package, OVERHEAD};
-    /// let mut buffer = vec![0; 100 + OVERHEAD];
-    /// let mut slide = Package::start(&mut buffer, 100)?;
-    /// slide.put_relationship(b"/t3", b"m2", b"a:page", Mode::External, b"b:c")?;
-    /// slide.put_relationship(b"/T3", b"m1", b"a:mask", Mode::Internal, b"m")?;
-    /// let mut out = [0; 400];
-    /// let length = slide.write_relationships(b"/t3", &mut out)?;
-    /// let lines: Vec<&str> = std::str::from_utf8(&out[..length]).unwrap().lines().collect();
+    /// use zombirels::package::PackageBuf;
+    /// use zombirels::Refusal;
+    /// let slide = PackageBuf::start(100)?;
+    /// let Err(Refusal::OutputTooShort { needed }) = slide.write_relationships("/", &mut []) else {
+    ///     panic!("no output");
+    /// };
+    /// let mut out = vec![0; needed];
+    /// assert_eq!(slide.write_relationships("/", &mut out)?, needed);
+    /// # Ok::<(), Refusal>(())
+    /// ```
+    pub fn write_relationships(
+        &self,
+        source: impl AsRef<[u8]>,
+        out: &mut [u8],
+    ) -> Result<usize, Refusal> {
+        write_two(ffi::opc_write_relationships, &self.0, source.as_ref(), out).value()
+    }
+
+    /// The Relationships part of a source.
+    ///
+    /// # Errors
+    ///
+    /// As [`Package::write_relationships`], but for the output;
+    /// [`Refusal::NotAPackage`] if it is no text.
+    ///
+    /// ```
+    /// use zombirels::package::{Mode, PackageBuf};
+    /// let mut slide = PackageBuf::start(100)?;
+    /// slide.put_relationship("/t3", "m2", "a:page", Mode::External, "b:c")?;
+    /// slide.put_relationship("/T3", "m1", "a:mask", Mode::Internal, "m")?;
+    /// let stream = slide.write_relationships_to_string("/t3")?;
+    /// let lines: Vec<&str> = stream.lines().collect();
     /// assert_eq!(lines[2], r#"<Relationship Id="m1" Type="a:mask" Target="m"/>"#);
     /// assert_eq!(
     ///     lines[3],
@@ -66,7 +108,13 @@ impl Package<'_> {
     /// assert_eq!(lines[4], "</Relationships>");
     /// # Ok::<(), zombirels::Refusal>(())
     /// ```
-    pub fn write_relationships(&self, source: &[u8], out: &mut [u8]) -> Result<usize, Refusal> {
-        self.as_package_ref().write_relationships(source, out)
+    pub fn write_relationships_to_string(
+        &self,
+        source: impl AsRef<[u8]>,
+    ) -> Result<String, Refusal> {
+        let source = source.as_ref();
+        owned::to_string(RELATIONSHIPS_STREAM_MAX, |out| {
+            self.write_relationships(source, out)
+        })
     }
 }

@@ -1,11 +1,14 @@
 //! Media types: Defaults and Overrides.
 
-use super::{done, Package};
+use super::Package;
 use crate::ffi;
-use crate::lent::{change, change_two};
+use crate::lent::{change, change_two, write_two};
+use crate::names::MEDIA_TYPE_MAX;
+use crate::owned;
 use crate::Refusal;
+use alloc::string::String;
 
-impl Package<'_> {
+impl Package {
     /// Holds a Default: the media type of parts whose names have that
     /// extension and no Override. The type may have parameters, see
     /// [`is_media_type`](crate::names::is_media_type).
@@ -17,24 +20,23 @@ impl Package<'_> {
     /// [`Refusal::Full`].
     ///
     /// ```
-    /// use zombirels::package::{Package, OVERHEAD};
+    /// use zombirels::package::PackageBuf;
     /// use zombirels::Refusal;
-    /// let mut buffer = vec![0; 100 + OVERHEAD];
-    /// let mut slide = Package::start(&mut buffer, 100)?;
-    /// slide.put_default(b"tiff", b"image/tiff")?;
-    /// assert_eq!(slide.put_default(b"TIFF", b"image/x"), Err(Refusal::Taken));
-    /// assert_eq!(slide.put_default(b"xml", b"xml"), Err(Refusal::BadType));
-    /// assert_eq!(slide.put_default(b"xml", b"a/b;c"), Err(Refusal::BadType));
+    /// let mut slide = PackageBuf::start(100)?;
+    /// slide.put_default("tiff", "image/tiff")?;
+    /// assert_eq!(slide.put_default("TIFF", "image/x"), Err(Refusal::Taken));
+    /// assert_eq!(slide.put_default("xml", "xml"), Err(Refusal::BadType));
+    /// assert_eq!(slide.put_default("xml", "a/b;c"), Err(Refusal::BadType));
     /// assert_eq!(slide.totals()?.charge, 14);
     /// # Ok::<(), Refusal>(())
     /// ```
-    pub fn put_default(&mut self, extension: &[u8], media_type: &[u8]) -> Result<(), Refusal> {
-        done(change_two(
-            ffi::opc_put_default,
-            self.buffer,
-            extension,
-            media_type,
-        ))
+    pub fn put_default(
+        &mut self,
+        extension: impl AsRef<[u8]>,
+        media_type: impl AsRef<[u8]>,
+    ) -> Result<(), Refusal> {
+        let (extension, media_type) = (extension.as_ref(), media_type.as_ref());
+        change_two(ffi::opc_put_default, &mut self.0, extension, media_type).done()
     }
 
     /// Drops the Default of an equivalent extension. Its charge is free again.
@@ -44,17 +46,16 @@ impl Package<'_> {
     /// [`Refusal::NotAPackage`]; [`Refusal::BadType`]; [`Refusal::NotHeld`].
     ///
     /// ```
-    /// use zombirels::package::{Package, OVERHEAD};
+    /// use zombirels::package::PackageBuf;
     /// use zombirels::Refusal;
-    /// let mut buffer = vec![0; 100 + OVERHEAD];
-    /// let mut slide = Package::start(&mut buffer, 100)?;
-    /// slide.put_default(b"tiff", b"image/tiff")?;
-    /// assert_eq!(slide.drop_default(b"Tiff"), Ok(()));
-    /// assert_eq!(slide.drop_default(b"tiff"), Err(Refusal::NotHeld));
+    /// let mut slide = PackageBuf::start(100)?;
+    /// slide.put_default("tiff", "image/tiff")?;
+    /// assert_eq!(slide.drop_default("Tiff"), Ok(()));
+    /// assert_eq!(slide.drop_default("tiff"), Err(Refusal::NotHeld));
     /// # Ok::<(), Refusal>(())
     /// ```
-    pub fn drop_default(&mut self, extension: &[u8]) -> Result<(), Refusal> {
-        done(change(ffi::opc_drop_default, self.buffer, extension))
+    pub fn drop_default(&mut self, extension: impl AsRef<[u8]>) -> Result<(), Refusal> {
+        change(ffi::opc_drop_default, &mut self.0, extension.as_ref()).done()
     }
 
     /// Holds an Override: the media type of the part with that name. The part
@@ -67,22 +68,21 @@ impl Package<'_> {
     /// [`Refusal::Full`].
     ///
     /// ```
-    /// use zombirels::package::{Package, OVERHEAD};
+    /// use zombirels::package::PackageBuf;
     /// use zombirels::Refusal;
-    /// let mut buffer = vec![0; 100 + OVERHEAD];
-    /// let mut slide = Package::start(&mut buffer, 100)?;
-    /// slide.put_override(b"/t3.tiff", b"image/x-tile")?;
-    /// let again = slide.put_override(b"/T3.tiff", b"image/tiff");
+    /// let mut slide = PackageBuf::start(100)?;
+    /// slide.put_override("/t3.tiff", "image/x-tile")?;
+    /// let again = slide.put_override("/T3.tiff", "image/tiff");
     /// assert_eq!(again, Err(Refusal::Taken));
     /// # Ok::<(), Refusal>(())
     /// ```
-    pub fn put_override(&mut self, name: &[u8], media_type: &[u8]) -> Result<(), Refusal> {
-        done(change_two(
-            ffi::opc_put_override,
-            self.buffer,
-            name,
-            media_type,
-        ))
+    pub fn put_override(
+        &mut self,
+        name: impl AsRef<[u8]>,
+        media_type: impl AsRef<[u8]>,
+    ) -> Result<(), Refusal> {
+        let (name, media_type) = (name.as_ref(), media_type.as_ref());
+        change_two(ffi::opc_put_override, &mut self.0, name, media_type).done()
     }
 
     /// Drops the Override of an equivalent name. Its charge is free again.
@@ -93,22 +93,21 @@ impl Package<'_> {
     /// [`Refusal::NotHeld`].
     ///
     /// ```
-    /// use zombirels::package::{Package, OVERHEAD};
+    /// use zombirels::package::PackageBuf;
     /// use zombirels::Refusal;
-    /// let mut buffer = vec![0; 100 + OVERHEAD];
-    /// let mut slide = Package::start(&mut buffer, 100)?;
-    /// slide.put_override(b"/t3", b"image/tiff")?;
-    /// assert_eq!(slide.drop_override(b"/T3"), Ok(()));
-    /// assert_eq!(slide.drop_override(b"/t3"), Err(Refusal::NotHeld));
+    /// let mut slide = PackageBuf::start(100)?;
+    /// slide.put_override("/t3", "image/tiff")?;
+    /// assert_eq!(slide.drop_override("/T3"), Ok(()));
+    /// assert_eq!(slide.drop_override("/t3"), Err(Refusal::NotHeld));
     /// # Ok::<(), Refusal>(())
     /// ```
-    pub fn drop_override(&mut self, name: &[u8]) -> Result<(), Refusal> {
-        done(change(ffi::opc_drop_override, self.buffer, name))
+    pub fn drop_override(&mut self, name: impl AsRef<[u8]>) -> Result<(), Refusal> {
+        change(ffi::opc_drop_override, &mut self.0, name.as_ref()).done()
     }
 
     /// Copies the media type of a part, its Override's or else that of the
-    /// Default of its extension, as it was given, and answers its length. 127
-    /// bytes always suffice.
+    /// Default of its extension, as it was given, and answers its length.
+    /// [`MEDIA_TYPE_MAX`] bytes always suffice.
     ///
     /// # Errors
     ///
@@ -117,23 +116,43 @@ impl Package<'_> {
     /// [`Refusal::NoMediaType`]; [`Refusal::OutputTooShort`].
     ///
     /// ```
-    /// use zombirels::package::{Package, OVERHEAD};
+    /// use zombirels::names::MEDIA_TYPE_MAX;
+    /// use zombirels::package::PackageBuf;
     /// use zombirels::Refusal;
-    /// let mut buffer = vec![0; 100 + OVERHEAD];
-    /// let mut slide = Package::start(&mut buffer, 100)?;
-    /// slide.put_item(b"/t3.tiff", b"tile")?;
-    /// let mut out = [0; 127];
-    /// let none = slide.media_type(b"/t3.tiff", &mut out);
+    /// let mut slide = PackageBuf::start(100)?;
+    /// slide.put_item("/t3.tiff", "tile")?;
+    /// let mut out = [0; MEDIA_TYPE_MAX];
+    /// let none = slide.media_type("/t3.tiff", &mut out);
     /// assert_eq!(none, Err(Refusal::NoMediaType));
-    /// slide.put_default(b"TIFF", b"image/tiff")?;
-    /// let length = slide.media_type(b"/t3.tiff", &mut out)?;
+    /// slide.put_default("TIFF", "image/tiff")?;
+    /// let length = slide.media_type("/t3.tiff", &mut out)?;
     /// assert_eq!(&out[..length], b"image/tiff");
-    /// slide.put_override(b"/T3.tiff", b"image/tiff;page=2")?;
-    /// let length = slide.media_type(b"/t3.tiff", &mut out)?;
+    /// slide.put_override("/T3.tiff", "image/tiff;page=2")?;
+    /// let length = slide.media_type("/t3.tiff", &mut out)?;
     /// assert_eq!(&out[..length], b"image/tiff;page=2");
     /// # Ok::<(), Refusal>(())
     /// ```
-    pub fn media_type(&self, name: &[u8], out: &mut [u8]) -> Result<usize, Refusal> {
-        self.as_package_ref().media_type(name, out)
+    pub fn media_type(&self, name: impl AsRef<[u8]>, out: &mut [u8]) -> Result<usize, Refusal> {
+        write_two(ffi::opc_media_type, &self.0, name.as_ref(), out).value()
+    }
+
+    /// The media type of a part.
+    ///
+    /// # Errors
+    ///
+    /// As [`Package::media_type`], but for the output;
+    /// [`Refusal::NotAPackage`] if it is no text.
+    ///
+    /// ```
+    /// use zombirels::package::PackageBuf;
+    /// let mut slide = PackageBuf::start(100)?;
+    /// slide.put_item("/t3.tiff", "tile")?;
+    /// slide.put_default("tiff", "image/tiff")?;
+    /// assert_eq!(slide.media_type_to_string("/T3.tiff")?, "image/tiff");
+    /// # Ok::<(), zombirels::Refusal>(())
+    /// ```
+    pub fn media_type_to_string(&self, name: impl AsRef<[u8]>) -> Result<String, Refusal> {
+        let name = name.as_ref();
+        owned::to_string(MEDIA_TYPE_MAX, |out| self.media_type(name, out))
     }
 }

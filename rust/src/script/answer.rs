@@ -7,7 +7,7 @@ use crate::Refusal;
 
 /// `N` bytes from a place on.
 pub(super) fn at<const N: usize>(bytes: &[u8], place: usize) -> [u8; N] {
-    std::array::from_fn(|i| bytes[place + i])
+    core::array::from_fn(|i| bytes[place + i])
 }
 
 /// The answer to one call of a script.
@@ -126,21 +126,21 @@ impl<'a> Answer<'a> {
     /// If it is another call.
     ///
     /// ```
-    /// use zombirels::package::{Package, TypeOrigin, OVERHEAD};
+    /// use zombirels::names::PART_NAME_MAX;
+    /// use zombirels::package::{PackageBuf, TypeOrigin};
     /// use zombirels::script::Script;
     /// let mut script = Script::new();
-    /// script.put_item(b"/t3.tiff", b"tile").put_default(b"TIFF", b"image/tiff");
-    /// script.type_origin(b"/t3.tiff", 255);
+    /// script.put_item("/t3.tiff", "tile").put_default("TIFF", "image/tiff");
+    /// script.type_origin("/t3.tiff", PART_NAME_MAX);
     ///
-    /// let mut buffer = vec![0; 100 + OVERHEAD];
-    /// let mut slide = Package::start(&mut buffer, 100)?;
-    /// let mut out = vec![0; script.output_len()];
-    /// let answers: Vec<_> = slide.run(&script, &mut out).answers().collect();
-    /// assert_eq!(answers[2].type_origin(), Ok(TypeOrigin::Default(b"TIFF")));
+    /// let mut slide = PackageBuf::start(100)?;
+    /// let run = slide.run_to_buf(&script);
+    /// let answers: Vec<_> = run.answers().collect();
+    /// assert_eq!(answers[2].type_origin(), Ok(TypeOrigin::Default(&b"TIFF"[..])));
     /// assert_eq!(answers[2].output(), Ok(&b"TIFF"[..]));
     /// # Ok::<(), zombirels::Refusal>(())
     /// ```
-    pub fn type_origin(&self) -> Result<TypeOrigin<'a>, Refusal> {
+    pub fn type_origin(&self) -> Result<TypeOrigin<&'a [u8]>, Refusal> {
         let expected = Some(Code::TypeOrigin);
         assert_eq!(self.code, expected, "not the answer of a type origin");
         let [kind, length, _] = self.values?;

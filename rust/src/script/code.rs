@@ -1,29 +1,53 @@
 //! The codes of a script's calls.
 
-/// The calls of a script, by their codes from 1 to 21.
-#[allow(missing_docs)] // each is the method of that name
+#[cfg(doc)]
+use super::Script;
+
+/// The calls of a script, by their codes from 1 to 21. Each is that of one
+/// method.
 #[derive(Clone, Copy, Debug, PartialEq, Eq, PartialOrd, Ord, Hash)]
 pub enum Code {
+    /// [`Script::start`]
     Start = 1,
+    /// [`Script::put_item`]
     PutItem,
+    /// [`Script::drop_item`]
     DropItem,
+    /// [`Script::put_default`]
     PutDefault,
+    /// [`Script::drop_default`]
     DropDefault,
+    /// [`Script::put_override`]
     PutOverride,
+    /// [`Script::drop_override`]
     DropOverride,
+    /// [`Script::put_relationship`]
     PutRelationship,
+    /// [`Script::drop_relationship`]
     DropRelationship,
+    /// [`Script::find_item`]
     FindItem,
+    /// [`Script::view_item`]
     ViewItem,
+    /// [`Script::totals`]
     Totals,
+    /// [`Script::read_part`]
     ReadPart,
+    /// [`Script::media_type`]
     MediaType,
+    /// [`Script::part_at`]
     PartAt,
+    /// [`Script::resolve_relationship`]
     ResolveRelationship,
+    /// [`Script::write_types`]
     WriteTypes,
+    /// [`Script::write_relationships`]
     WriteRelationships,
+    /// [`Script::cut_part`]
     CutPart,
+    /// [`Script::join_part`]
     JoinPart,
+    /// [`Script::type_origin`]
     TypeOrigin,
 }
 

@@ -2,28 +2,30 @@
 
 use super::answer::at;
 use super::{Answer, Code, Package, Script, HEAD_SIZE, REPLY_SIZE};
-use crate::ffi;
-use std::fmt;
-use std::iter::FusedIterator;
+use crate::lent;
+use alloc::vec;
+use alloc::vec::Vec;
+use core::fmt;
+use core::iter::FusedIterator;
 
 /// Scripts.
-impl Package<'_> {
+impl Package {
     /// Makes the calls of a script one after the other and writes their
     /// answers to `out`: all, if it has [`Script::output_len`] bytes. It ends
     /// before a call whose answer finds no room; what the calls before it did
     /// is done.
     ///
     /// ```
-    /// use zombirels::package::{Package, OVERHEAD};
+    /// use zombirels::names::PART_NAME_MAX;
+    /// use zombirels::package::PackageBuf;
     /// use zombirels::script::Script;
     /// let mut script = Script::new();
     /// for position in 0..3 {
-    ///     script.part_at(position, 255);
+    ///     script.part_at(position, PART_NAME_MAX);
     /// }
-    /// let mut buffer = vec![0; 100 + OVERHEAD];
-    /// let mut slide = Package::start(&mut buffer, 100)?;
-    /// slide.put_item(b"/b", b"")?;
-    /// slide.put_item(b"/A", b"")?;
+    /// let mut slide = PackageBuf::start(100)?;
+    /// slide.put_item("/b", "")?;
+    /// slide.put_item("/A", "")?;
     ///
     /// let mut out = vec![0; script.output_len()];
     /// let run = slide.run(&script, &mut out);
@@ -35,19 +37,43 @@ impl Package<'_> {
         self.run_bytes(script.as_bytes(), out)
     }
 
+    /// Makes all calls of a script and keeps their answers.
+    ///
+    /// ```
+    /// use zombirels::package::PackageBuf;
+    /// use zombirels::script::Script;
+    /// let mut script = Script::new();
+    /// script.put_item("/t3", "tile").find_item("/T3");
+    /// let mut slide = PackageBuf::start(100)?;
+    /// let run = slide.run_to_buf(&script);
+    /// let lengths: Vec<_> = run.answers().map(|answer| answer.length()).collect();
+    /// assert_eq!(lengths, [Ok(0), Ok(4)]);
+    /// # Ok::<(), zombirels::Refusal>(())
+    /// ```
+    pub fn run_to_buf<'s>(&mut self, script: &'s Script) -> RunBuf<'s> {
+        let mut out = vec![0; script.output_len()];
+        let Run { read, calls, .. } = self.run(script, &mut out);
+        let script = script.as_bytes();
+        RunBuf {
+            script,
+            out,
+            read,
+            calls,
+        }
+    }
+
     /// Runs a script from any bytes, stored ones or another's. Where they have
     /// no call, the run ends with the answer
     /// [`Refusal::UnreadableLine`](crate::Refusal::UnreadableLine).
     ///
     /// ```
-    /// use zombirels::package::{Package, OVERHEAD};
+    /// use zombirels::package::PackageBuf;
     /// use zombirels::script::Script;
     /// use zombirels::Refusal;
     /// let mut stored = Script::new().totals().as_bytes().to_vec();
     /// stored.push(2);
     ///
-    /// let mut buffer = vec![0; 100 + OVERHEAD];
-    /// let mut slide = Package::start(&mut buffer, 100)?;
+    /// let mut slide = PackageBuf::start(100)?;
     /// let mut out = [0; 200];
     /// let run = slide.run_bytes(&stored, &mut out);
     /// assert_eq!((run.calls(), run.is_complete()), (1, false));
@@ -56,18 +82,7 @@ impl Package<'_> {
     /// # Ok::<(), Refusal>(())
     /// ```
     pub fn run_bytes<'r>(&mut self, script: &'r [u8], out: &'r mut [u8]) -> Run<'r> {
-        // SAFETY: each pointer and its length come from one slice; the
-        // package's and the output's are lent for writing.
-        let reply = unsafe {
-            ffi::opc_run(
-                self.buffer.as_mut_ptr(),
-                self.buffer.len(),
-                script.as_ptr(),
-                script.len(),
-                out.as_mut_ptr(),
-                out.len(),
-            )
-        };
+        let reply = lent::run(self.as_bytes_mut(), script, out);
         let [written, read, calls] = reply.values().expect("a run is never refused");
         Run {
             script,
@@ -146,6 +161,47 @@ impl<'a> IntoIterator for Run<'a> {
     }
 }
 
+/// What [`Package::run_to_buf`] did: a [`Run`] that owns the answers.
+#[derive(Clone)]
+pub struct RunBuf<'s> {
+    script: &'s [u8],
+    out: Vec<u8>,
+    read: usize,
+    calls: usize,
+}
+
+/// Shows the numbers, not the answers.
+impl fmt::Debug for RunBuf<'_> {
+    fn fmt(&self, f: &mut fmt::Formatter<'_>) -> fmt::Result {
+        self.as_run().fmt(f)
+    }
+}
+
+impl RunBuf<'_> {
+    /// The run, with answers that are lent.
+    #[must_use]
+    pub fn as_run(&self) -> Run<'_> {
+        Run {
+            script: self.script,
+            out: &self.out,
+            read: self.read,
+            calls: self.calls,
+        }
+    }
+
+    /// The answers, in the order of the calls.
+    #[must_use]
+    pub fn answers(&self) -> Answers<'_> {
+        self.as_run().answers()
+    }
+
+    /// The answers' bytes.
+    #[must_use]
+    pub fn into_bytes(self) -> Vec<u8> {
+        self.out
+    }
+}
+
 /// The answers of a [`Run`].
 #[derive(Clone)]
 pub struct Answers<'a> {
@@ -184,5 +240,5 @@ impl FusedIterator for Answers<'_> {}
 
 /// The numbers of a head.
 fn fields(head: &[u8]) -> [u32; 8] {
-    std::array::from_fn(|i| u32::from_le_bytes(at(head, 4 * i)))
+    core::array::from_fn(|i| u32::from_le_bytes(at(head, 4 * i)))
 }

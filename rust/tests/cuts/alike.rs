@@ -50,13 +50,13 @@ impl Told {
 }
 
 /// The totals and the bytes of these items, in pieces or whole.
-fn entries(package: &Package, names: &[Vec<u8>]) -> (Totals, Vec<Vec<u8>>) {
+fn entries(package: &Package, names: &[Vec<u8>]) -> (Totals, Vec<Option<Vec<u8>>>) {
     let totals = package.totals().expect("a package");
     let items = names.iter().flat_map(|name| {
         let pieces = (0..3).flat_map(|k| [piece(name, k, k + 1), piece(name, k, 9)]);
         pieces.chain([name.clone()])
     });
-    let views = items.map(|name| package.view_item(&name).to_vec());
+    let views = items.map(|name| package.view_item(&name).map(<[u8]>::to_vec));
     (totals, views.collect())
 }
 
@@ -97,24 +97,24 @@ fn before_and_after() {
     let (mut cuts, mut joins) = (0, 0);
     for _ in 0..300 {
         let mut buffer = buffer(6000);
-        let (mut pair, names) = filled(&mut random, &mut buffer);
-        let told = Told::new(&pair.package, &names);
+        let (pair, names) = filled(&mut random, &mut buffer);
+        let told = Told::new(pair.package, &names);
         for name in &names {
             let asked = random.flip_case(name);
-            let before = entries(&pair.package, &names);
+            let before = entries(pair.package, &names);
             let count = random.pick(&[1, 2, 3, 7, 13, 41, 100]);
             if pair.package.join_part(&asked).is_ok() {
                 joins += 1;
-                assert!(Told::new(&pair.package, &names) == told);
+                assert!(Told::new(pair.package, &names) == told);
                 continue;
             }
             pair.package.cut_part(&asked, count).expect("whole");
             cuts += 1;
-            assert!(Told::new(&pair.package, &names) == told);
-            assert!(entries(&pair.package, &names) != before);
+            assert!(Told::new(pair.package, &names) == told);
+            assert!(entries(pair.package, &names) != before);
             pair.package.join_part(&asked).expect("in pieces");
-            assert!(Told::new(&pair.package, &names) == told);
-            assert!(entries(&pair.package, &names) == before);
+            assert!(Told::new(pair.package, &names) == told);
+            assert!(entries(pair.package, &names) == before);
         }
     }
     println!("before and after: {cuts} cuts, {joins} joins of other pieces");
@@ -132,7 +132,10 @@ fn every_small_cut() {
         pair.put(b"/before", b"1234567");
         pair.put(b"/A", &content);
         pair.put(b"/behind", b"89");
-        let whole = (pair.charge(), pair.package.view_item(b"/a").to_vec());
+        let whole = (
+            pair.charge(),
+            pair.package.view_item(b"/a").map(<[u8]>::to_vec),
+        );
         for count in 1..=45 {
             let (size, longer) = (length / count, length % count);
             assert_eq!(pair.cut(b"/a", count as u64), Ok((size, longer)));
@@ -141,13 +144,16 @@ fn every_small_cut() {
                 let (bytes, behind) = rest.split_at(size + usize::from(k < longer));
                 let name = piece(b"/a", k, count);
                 assert_eq!(pair.package.find_item(&name), Ok(bytes.len()));
-                assert_eq!(pair.package.view_item(&name), bytes);
+                assert_eq!(pair.package.view_item(&name), Some(bytes));
                 rest = behind;
             }
             assert!(rest.is_empty());
             pair.check();
             assert_eq!(pair.join(b"/A"), Ok((0, 0)));
-            let again = (pair.charge(), pair.package.view_item(b"/a").to_vec());
+            let again = (
+                pair.charge(),
+                pair.package.view_item(b"/a").map(<[u8]>::to_vec),
+            );
             assert_eq!(again, whole);
         }
         pair.check();

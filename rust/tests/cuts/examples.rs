@@ -18,7 +18,8 @@ fn pieces(text: &str, count: usize) -> Vec<String> {
         false => format!("/Tile.x/[{k}].piece"),
         true => format!("/Tile.x/[{k}].last.piece"),
     };
-    let views = (0..count).map(|k| text(pair.package.view_item(piece(k).as_bytes())));
+    let view = |k| pair.package.view_item(piece(k)).expect("a piece");
+    let views = (0..count).map(|k| text(view(k)));
     views.collect()
 }
 
@@ -39,7 +40,7 @@ fn cut_contents() {
 #[test]
 fn spellings() {
     let mut buffer = buffer(1000);
-    let mut package = Package::start(&mut buffer, 1000).expect("room");
+    let package = Package::start(&mut buffer, 1000).expect("room");
     let at = |package: &Package| {
         let mut out = [0; 255];
         let length = package.part_at(0, &mut out).expect("a part");
@@ -48,7 +49,7 @@ fn spellings() {
     package.put_item(b"/LEFT/t3", b"abc").expect("room");
     let expected = Cut { size: 1, longer: 1 };
     assert_eq!(package.cut_part(b"/left/T3", 2), Ok(expected));
-    assert_eq!(at(&package), "/LEFT/t3");
+    assert_eq!(at(package), "/LEFT/t3");
     assert_eq!(
         package.totals().map(|totals| totals.charge),
         Ok(8 * 2 + 25 + 3)
@@ -58,8 +59,8 @@ fn spellings() {
     assert_eq!(package.join_part(b"/LEFT/t3"), Err(Refusal::NotHeld));
     package.put_item(b"/Left/T3/[0].PIECE", b"").expect("room");
     assert_eq!(package.join_part(b"/LEFT/t3"), Ok(()));
-    assert_eq!(at(&package), "/Left/T3");
-    assert_eq!(package.view_item(b"/left/t3"), b"c");
+    assert_eq!(at(package), "/Left/T3");
+    assert_eq!(package.view_item(b"/left/t3"), Some(&b"c"[..]));
     assert_eq!(package.totals().map(|totals| totals.charge), Ok(8 + 1));
 }
 
@@ -73,8 +74,9 @@ fn one_piece() {
     assert_eq!(pair.join(b"/A"), Ok((0, 0)));
     assert_eq!(pair.join(b"/a"), Err(18));
     assert_eq!(pair.cut(b"/A", 1), Ok((4, 0)));
-    assert_eq!(pair.package.view_item(b"/a/[0].last.piece"), b"tile");
-    assert_eq!(pair.package.view_item(b"/a"), b"");
+    let piece = pair.package.view_item(b"/a/[0].last.piece");
+    assert_eq!(piece, Some(&b"tile"[..]));
+    assert_eq!(pair.package.view_item(b"/a"), None);
     pair.check();
 }
 
@@ -111,7 +113,7 @@ fn tiles_that_alternate() {
     }
     script.join_part(b"/t2").join_part(b"/t1").totals();
     let mut buffer = buffer(200);
-    let mut package = Package::start(&mut buffer, 200).expect("room");
+    let package = Package::start(&mut buffer, 200).expect("room");
     let mut out = vec![0; script.output_len()];
     let answers: Vec<_> = package.run(&script, &mut out).into_iter().collect();
     assert_eq!(answers[2].cut(), Ok(Cut { size: 5, longer: 0 }));

@@ -121,7 +121,7 @@ fn random_packages() {
             assert_eq!(pair.charge(), plan.capacity());
             pair.check();
             assert_eq!(pair.join(&random.flip_case(TILE)), Ok((0, 0)));
-            assert_eq!(pair.package.view_item(TILE), plan.tile);
+            assert_eq!(pair.package.view_item(TILE), Some(&plan.tile[..]));
             pair.check();
         }
     }
@@ -185,7 +185,7 @@ fn the_greatest_part() {
         assert_eq!(pair.charge(), capacity);
         pair.check();
         assert_eq!(pair.join(TILE), Ok((0, 0)));
-        assert!(pair.package.view_item(TILE) == &tile[..size]);
+        assert!(pair.package.view_item(TILE) == Some(&tile[..size]));
     }
 }
 

@@ -19,7 +19,7 @@ type Answer = Result<(usize, usize), u64>;
 /// A package in a buffer of just the right length, beside the ledger of what
 /// it must hold. Each change is made on both sides and compared.
 struct Pair<'a> {
-    package: Package<'a>,
+    package: &'a mut Package,
     ledger: Ledger,
 }
 
@@ -91,7 +91,7 @@ impl<'a> Pair<'a> {
         for (name, bytes) in self.ledger.items() {
             let name = name.to_ascii_uppercase();
             assert_eq!(self.package.find_item(&name), Ok(bytes.len()));
-            let alike = self.package.view_item(&name) == bytes;
+            let alike = self.package.view_item(&name) == Some(bytes);
             assert!(alike, "{} is viewed as other bytes", show(&name));
         }
         for (position, part) in self.ledger.parts().enumerate() {

@@ -81,7 +81,7 @@ fn joins() {
 fn no_package() {
     for length in [0, 1, 100, OVERHEAD - 1, OVERHEAD, OVERHEAD + 5000] {
         let mut buffer = vec![0; length];
-        let mut package = Package::open(&mut buffer);
+        let package = Package::open_mut(&mut buffer);
         let names = [&b"/a"[..], b"", b"/_rels/.rels"];
         for name in names {
             for count in [0, 2, 257] {

@@ -14,7 +14,7 @@ fn package(random: &mut Random) -> Box<[u8]> {
     let capacity = 1000 + random.below(6000);
     let spare = random.pick(&[0, 0, 300]);
     let mut buffer = vec![0; capacity + OVERHEAD + spare].into_boxed_slice();
-    let mut package = Package::start(&mut buffer, capacity as u64).expect("room");
+    let package = Package::start(&mut buffer, capacity as u64).expect("room");
     let mut items = Vec::new();
     for part in 0..1 + random.below(8) {
         let name = format!("/t{part}").into_bytes();

@@ -3,7 +3,7 @@
 use crate::support::{self, Random};
 use crate::{real_package, watch, CALLS, ENDED, HEADER, MARK};
 use std::sync::atomic::Ordering;
-use zombirels::package::{Mode, Package, PackageRef, Totals, CAPACITY_MAX, OVERHEAD};
+use zombirels::package::{Mode, Package, Totals, CAPACITY_MAX, OVERHEAD};
 use zombirels::Refusal;
 
 /// How many calls are made on each buffer.
@@ -12,14 +12,14 @@ const NONE_CALLS: usize = 28;
 /// Each of these calls on the buffer gives 1, and the view is empty.
 fn is_no_package(buffer: &mut [u8]) {
     let before = buffer.to_vec();
-    let mut package = Package::open(buffer);
+    let package = Package::open_mut(buffer);
     let mut out = [7; 40];
     let one = Refusal::NotAPackage;
     assert_eq!(package.put_item(b"/a", b"x"), Err(one));
     assert_eq!(package.put_item(b"no name", b"x"), Err(one));
     assert_eq!(package.drop_item(b"/a"), Err(one));
     assert_eq!(package.find_item(b"/a"), Err(one));
-    assert_eq!(package.view_item(b"/a"), b"");
+    assert_eq!(package.view_item(b"/a"), None);
     assert_eq!(package.read_part(b"/a", 0, &mut out), Err(one));
     assert_eq!(package.read_part(b"", u64::MAX, &mut out), Err(one));
     assert_eq!(package.part_at(0, &mut out), Err(one));
@@ -72,7 +72,7 @@ fn short_buffers_and_zeros() {
     {
         let mut package = real_package(&mut random);
         package[MARK..HEADER].fill(0); // an empty package, but for its length
-        assert_eq!(PackageRef::open(&package).totals(), Ok(empty));
+        assert_eq!(Package::open(&package).totals(), Ok(empty));
         let mut short: Box<[u8]> = package[..length].into();
         is_no_package(&mut short);
         assert_eq!(Package::start(&mut short, 0).err(), Some(Refusal::BadStart));

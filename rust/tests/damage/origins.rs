@@ -24,7 +24,7 @@ fn package(random: &mut Random) -> Box<[u8]> {
     let capacity = 1000 + random.below(2000);
     let spare = random.pick(&[0, 0, 300]);
     let mut buffer = vec![0; capacity + OVERHEAD + spare].into_boxed_slice();
-    let mut package = Package::start(&mut buffer, capacity as u64).expect("room");
+    let package = Package::start(&mut buffer, capacity as u64).expect("room");
     for _ in 0..20 + random.below(60) {
         let name = part(random);
         let extension = random.pick(EXTENSIONS);
@@ -33,7 +33,7 @@ fn package(random: &mut Random) -> Box<[u8]> {
             1 if random.once_in(4) => drop(package.drop_default(extension)),
             1 | 2 => drop(package.put_override(&name, b"text/xml;q=1")),
             3 if random.once_in(4) => drop(package.drop_override(&name)),
-            4 => drop(package.put_item(&[&name[..], b"/[0].last.piece"].concat(), b"tile")),
+            4 => drop(package.put_item([&name[..], b"/[0].last.piece"].concat(), b"tile")),
             _ => drop(package.put_item(&name, b"tile")),
         }
     }

@@ -102,7 +102,7 @@ fn all_held() {
                 pair.expect(&put(&name), 10);
                 pair.expect(&find(&name), 0);
                 pair.make(&view(&name)).expect("a view");
-                let seen = pair.package.view_item(&name);
+                let seen = pair.package.view_item(&name).expect("held");
                 assert!(is_equivalent(seen, &name), "{}", show(&name));
             }
         }
@@ -167,7 +167,8 @@ fn beyond_ascii() {
     ] {
         pair.expect(&put(name), number);
     }
-    assert_eq!(pair.package.view_item(b"/%c3%a9"), b"/%C3%A9");
-    assert_eq!(pair.package.view_item(b"/\xC3\xA9Z"), b"/\xC3\xA9z");
+    let view = |name: &[u8]| pair.package.view_item(name);
+    assert_eq!(view(b"/%c3%a9"), Some(&b"/%C3%A9"[..]));
+    assert_eq!(view(b"/\xC3\xA9Z"), Some(&b"/\xC3\xA9z"[..]));
     pair.check_parts();
 }

@@ -20,7 +20,7 @@ use zombirels::script::Code;
 
 /// A package beside its ledger. Each call is made on both sides and compared.
 struct Pair<'a> {
-    package: Package<'a>,
+    package: &'a mut Package,
     ledger: Ledger,
 }
 
@@ -45,7 +45,7 @@ impl<'a> Pair<'a> {
         let length = self.package.as_bytes().len() as u64;
         let kept = call.changes().then(|| self.package.as_bytes().to_vec());
         let mut outs = [(); 2].map(|()| vec![b'.'; call.lent]);
-        let answer = call.by_archive(&mut self.package, &mut outs[0]);
+        let answer = call.by_archive(self.package, &mut outs[0]);
         let right = call.by_reference(&mut self.ledger, length, &mut outs[1]);
         assert!(answer == right, "{}: {answer:?} for {right:?}", call.show());
         let [out, other] = outs;

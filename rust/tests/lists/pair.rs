@@ -55,7 +55,7 @@ fn has_parameters(call: &Call, answer: Answer, out: &[u8]) -> bool {
 
 /// Both sides and what was seen so far.
 pub struct Pair<'a> {
-    pub package: Package<'a>,
+    pub package: &'a mut Package,
     pub ledger: Ledger,
     pub seen: &'a mut Seen,
     /// All calls of the list up to now, for the message.
@@ -72,7 +72,7 @@ impl Pair<'_> {
         let asks = call.code == Code::TypeOrigin;
         let keep = (call.changes() || asks) && random.once_in(4);
         let kept = keep.then(|| self.package.as_bytes().to_vec());
-        let answer = call.by_archive(&mut self.package, outputs.archive());
+        let answer = call.by_archive(self.package, outputs.archive());
         let right = call.by_reference(&mut self.ledger, length, outputs.reference());
         let told = || {
             let calls: Vec<String> = self.made.iter().chain([call]).map(Call::show).collect();
@@ -82,7 +82,9 @@ impl Pair<'_> {
         outputs.check(call.written(answer), told);
         if call.code == Code::ViewItem {
             let name = &call.texts[0];
-            let alike = self.package.view_item(name) == self.ledger.view_item(name);
+            let held = self.ledger.find_item(name).is_ok();
+            let right = held.then(|| self.ledger.view_item(name));
+            let alike = self.package.view_item(name) == right;
             assert!(alike, "{}: the views differ", told());
         }
         match kept {

@@ -1,7 +1,7 @@
 //! Examples, by hand.
 
 use crate::{buffer, Pair};
-use zombirels::package::{Package, PackageRef, TypeOrigin};
+use zombirels::package::{Package, TypeOrigin};
 use zombirels::script::Script;
 use zombirels::Refusal;
 
@@ -178,18 +178,21 @@ fn in_a_script() {
         .put_override(b"/T3.X", b"a/b")
         .type_origin(b"/t3.x", 5);
     let mut buffer = buffer(100);
-    let mut package = Package::start(&mut buffer, 100).expect("room");
+    let package = Package::start(&mut buffer, 100).expect("room");
     let mut out = vec![b'.'; script.output_len()];
     let answers: Vec<_> = package.run(&script, &mut out).into_iter().collect();
     assert_eq!(answers[1].type_origin(), Ok(TypeOrigin::Neither));
     assert_eq!(answers[1].values, Ok([0, 0, 0]));
-    assert_eq!(answers[3].type_origin(), Ok(TypeOrigin::Default(b"X")));
+    assert_eq!(answers[3].type_origin(), Ok(TypeOrigin::Default(&b"X"[..])));
     assert_eq!((answers[3].length(), answers[3].lent), (Ok(1), &b"X.."[..]));
     let short = Refusal::OutputTooShort { needed: 1 };
     assert_eq!(answers[4].type_origin(), Err(short));
     assert_eq!(answers[5].type_origin(), Err(Refusal::NotHeld));
     assert_eq!(answers[5].lent, b".........");
-    assert_eq!(answers[7].type_origin(), Ok(TypeOrigin::Override(b"/T3.X")));
+    assert_eq!(
+        answers[7].type_origin(),
+        Ok(TypeOrigin::Override(&b"/T3.X"[..]))
+    );
     assert_eq!(answers[7].output(), Ok(&b"/T3.X"[..]));
     assert_eq!(answers[7].values, Ok([2, 5, 0]));
 }
@@ -200,10 +203,10 @@ fn only_looked_at() {
     let mut buffer = buffer(100);
     Pair::with(&mut buffer, &["/t3.x"], &["X"], &[]);
     let mut out = [b'.'; 4];
-    let origin = PackageRef::open(&buffer).type_origin(b"/T3.x", &mut out);
+    let origin = Package::open(&buffer).type_origin(b"/T3.x", &mut out);
     drop(buffer);
-    assert_eq!(origin, Ok(TypeOrigin::Default(b"X")));
+    assert_eq!(origin, Ok(TypeOrigin::Default(&b"X"[..])));
     assert_eq!(origin.map(TypeOrigin::key), Ok(Some(&b"X"[..])));
     assert_eq!(&out, b"X...");
-    assert_eq!(TypeOrigin::Neither.key(), None);
+    assert_eq!(TypeOrigin::<&[u8]>::Neither.key(), None);
 }

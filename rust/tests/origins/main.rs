@@ -11,7 +11,7 @@ mod support;
 use reference::ledger::Ledger;
 use support::outputs::GUARD;
 use support::{numbers, show};
-use zombirels::package::{Package, PackageRef, OVERHEAD};
+use zombirels::package::{Package, OVERHEAD};
 
 /// The kind and the key, or the refusal's number and the length that it
 /// carries.
@@ -84,7 +84,7 @@ fn origin(package: &[u8], name: &[u8], lent: usize) -> Answer {
 /// The wrapper tells the same.
 fn compare_wrapper(package: &[u8], name: &[u8], lent: usize, answer: &Answer) {
     let mut out = vec![b'.'; lent];
-    let origin = PackageRef::open(package).type_origin(name, &mut out);
+    let origin = Package::open(package).type_origin(name, &mut out);
     let told = origin.map(|origin| {
         let key = origin.key().unwrap_or_default();
         (origin.number(), key.to_vec())
@@ -98,7 +98,7 @@ fn compare_wrapper(package: &[u8], name: &[u8], lent: usize, answer: &Answer) {
 
 /// A package beside the ledger of what it must hold.
 struct Pair<'a> {
-    package: Package<'a>,
+    package: &'a mut Package,
     ledger: Ledger,
 }
 

@@ -5,7 +5,7 @@ use crate::support::{numbers, Random};
 use crate::{buffer, origin};
 use reference::names::{extension, is_equivalent};
 use std::collections::BTreeMap;
-use zombirels::package::{Package, PackageRef, OVERHEAD};
+use zombirels::package::{Package, OVERHEAD};
 
 /// A key and its media type.
 type Entry = (Vec<u8>, Vec<u8>);
@@ -76,7 +76,7 @@ fn filled(random: &mut Random, package: &mut Package) -> Held {
 
 fn media_type(package: &[u8], name: &[u8]) -> Result<Vec<u8>, u64> {
     let mut out = [0; 127];
-    let length = PackageRef::open(package).media_type(name, &mut out);
+    let length = Package::open(package).media_type(name, &mut out);
     let length = length.map_err(|refusal| numbers(refusal).0)?;
     Ok(out[..length].to_vec())
 }
@@ -128,7 +128,7 @@ impl Held {
     fn check_dropped(&self, package: &[u8], name: &[u8], kind: u64, key: &[u8]) {
         let before = media_type(package, name);
         let mut dropped = package.to_vec();
-        let mut without = Package::open(&mut dropped);
+        let without = Package::open_mut(&mut dropped);
         let drop = match kind {
             2 => without.drop_override(key),
             _ => without.drop_default(key),
@@ -157,9 +157,9 @@ fn random_packages() {
     for _ in 0..1000 {
         let capacity = random.pick(&[100, 600, 3000]);
         let mut buffer = buffer(capacity);
-        let mut package = Package::start(&mut buffer, capacity as u64).expect("room");
+        let package = Package::start(&mut buffer, capacity as u64).expect("room");
         assert_eq!(package.as_bytes().len(), capacity + OVERHEAD);
-        let held = filled(&mut random, &mut package);
+        let held = filled(&mut random, package);
         for name in NAMES.into_iter().chain(OTHERS) {
             let asked = random.flip_case(name);
             let answer = held.check(package.as_bytes(), &asked);

@@ -132,7 +132,7 @@ fn empty_scripts() {
         assert_eq!(told, (0, 0, 0));
     }
     let mut buffer = vec![0; 100 + OVERHEAD];
-    let mut package = Package::start(&mut buffer, 100).expect("room");
+    let package = Package::start(&mut buffer, 100).expect("room");
     let script = Script::new();
     assert_eq!(script.output_len(), 0);
     let run = package.run(&script, &mut []);
@@ -150,11 +150,11 @@ fn starts() {
     script
         .start(100)
         .totals()
-        .put_item(b"/b", &[b'x'; 98])
+        .put_item(b"/b", [b'x'; 98])
         .totals();
     let mut buffer = vec![0; 100 + OVERHEAD];
     let mut out = vec![b'.'; script.output_len()];
-    let mut package = Package::open(&mut buffer);
+    let package = Package::open_mut(&mut buffer);
     let run = package.run(&script, &mut out);
     assert!(run.is_complete());
     assert_eq!(run.calls(), 13);

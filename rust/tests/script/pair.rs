@@ -55,7 +55,7 @@ impl Pair {
     pub fn run(&mut self, script: &[u8], before: &[u8]) -> (Vec<u8>, Told) {
         let length = self.length();
         let (mut out, mut expected) = (Guarded::new(before), before.to_vec());
-        let mut package = Package::open(self.package.bytes());
+        let package = Package::open_mut(self.package.bytes());
         let run = package.run_bytes(script, out.bytes());
         let told = (run.written(), run.read(), run.calls());
         let complete = run.is_complete();
@@ -74,7 +74,7 @@ impl Pair {
     /// Compares the totals and the streams, through the calls by themselves.
     pub fn compare(&mut self) {
         let Pair { package, ledger } = self;
-        let package = Package::open(package.bytes());
+        let package = Package::open_mut(package.bytes());
         let (totals, right) = (package.totals().expect("a package"), ledger.totals());
         let right = [right.items, right.parts, right.charge].map(|value| value as usize);
         assert_eq!([totals.items, totals.parts, totals.charge], right);

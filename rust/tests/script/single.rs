@@ -8,7 +8,7 @@ use crate::random::{random_calls, random_length, random_tail};
 use crate::support::calls::{self, Call};
 use crate::support::{self, numbers, Random};
 use crate::SCRIPTS;
-use zombirels::package::{Package, Resolved, TypeOrigin};
+use zombirels::package::{Package, Resolved};
 use zombirels::script::{Answer, Code, HEAD_SIZE, REPLY_SIZE};
 
 /// The same calls by themselves give the same answers and leave the same
@@ -34,16 +34,16 @@ fn run_and_make(random: &mut Random, bytes: &mut [u8], calls: &[Call]) -> usize 
     let script = script_of(calls);
     let before = random.bytes(output_of(calls) + 10);
     let (mut out, mut expected) = (Guarded::new(&before), before.clone());
-    let mut package = Package::open(bytes);
+    let package = Package::open_mut(bytes);
     let run = package.run_bytes(&script, out.bytes());
     assert_eq!(run.written(), output_of(calls));
     assert_eq!((run.read(), run.calls()), (script.len(), calls.len()));
-    let mut single = Package::open(&mut others);
+    let single = Package::open_mut(&mut others);
     let (mut answers, mut rest) = (run.answers(), &mut expected[..]);
     for call in calls {
         let (place, behind) = rest.split_at_mut(call.span());
         let (reply, lent) = place.split_at_mut(REPLY_SIZE);
-        let right = call.by_archive(&mut single, lent);
+        let right = call.by_archive(single, lent);
         reply.copy_from_slice(&call.reply_bytes(right));
         check_answer(&answers.next().expect("an answer"), call, lent, right);
         rest = behind;
@@ -85,7 +85,7 @@ fn check_answer(answer: &Answer, call: &Call, lent: &[u8], expected: calls::Answ
         Code::TypeOrigin => {
             let origin = answer.type_origin().map_err(numbers);
             let kind = expected.map(|[kind, ..]| kind as u64);
-            assert_eq!(origin.map(TypeOrigin::number), kind);
+            assert_eq!(origin.map(|origin| origin.number()), kind);
             let key = origin.map(|origin| origin.key().unwrap_or_default());
             assert_eq!(key, written);
         }
@@ -124,7 +124,7 @@ fn damaged_packages() {
         let pair = Pair::new(2000, 0);
         let calls = random_calls(&mut random, &pair, 2000);
         let mut package = Guarded::new(&bytes);
-        none += usize::from(Package::open(package.bytes()).totals().is_err());
+        none += usize::from(Package::open_mut(package.bytes()).totals().is_err());
         made += run_and_make(&mut random, package.bytes(), &calls);
         package.check();
 
@@ -135,7 +135,7 @@ fn damaged_packages() {
         let length = random_length(&mut random, &calls);
         let before = random.bytes(length).into_boxed_slice();
         let mut out = before.clone();
-        let run = Package::open(&mut package).run_bytes(&script, &mut out);
+        let run = Package::open_mut(&mut package).run_bytes(&script, &mut out);
         let (written, calls) = (run.written(), run.calls());
         assert!(run.read() <= script.len() && calls <= script.len() / HEAD_SIZE);
         let answers = run.answers().filter(|answer| answer.code.is_some());

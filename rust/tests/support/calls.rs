@@ -83,7 +83,7 @@ impl Call {
             Code::DropRelationship => package.drop_relationship(a, b).map(done),
             Code::FindItem => package.find_item(a).map(one),
             Code::ViewItem => {
-                let part = package.view_item(a);
+                let part = package.view_item(a).unwrap_or_default();
                 let copied = part.len().min(out.len());
                 out[..copied].copy_from_slice(&part[..copied]);
                 Ok(one(part.len()))
@@ -161,7 +161,7 @@ extern "C" {
 /// Puts a relationship with a number that is no mode.
 fn put_by_number(package: &mut Package, texts: [&[u8]; 4], mode: u64) -> Answer {
     let [source, id, kind, target] = texts;
-    let bytes = std::mem::replace(package, Package::open(&mut [])).into_bytes();
+    let bytes = package.as_bytes_mut();
     // SAFETY: each pointer and its length come from one slice; the package's
     // is lent for writing.
     let reply = unsafe {
@@ -179,7 +179,6 @@ fn put_by_number(package: &mut Package, texts: [&[u8]; 4], mode: u64) -> Answer 
             target.len(),
         )
     };
-    *package = Package::open(bytes);
     assert_eq!((reply.count, reply.values), (1, [0; 3]));
     match reply.number {
         0 => Ok(one(0)),

@@ -185,12 +185,13 @@ const BASE: &[u8] = b"http://example.com/slide.opc";
 
 /// Every call on a package but start.
 pub const CALLS: [(&str, Call); 30] = [
-    ("put item", |p, _| p.put_item(b"/b", &[7; 100])),
+    ("put item", |p, _| p.put_item(b"/b", [7; 100])),
     ("put item, derivable", |p, _| p.put_item(b"/a/b", b"")),
     ("drop item", |p, _| p.drop_item(b"/a")),
     ("find item", |p, _| p.find_item(b"/a").map(drop)),
     ("view item", |p, _| {
-        assert!(p.view_item(b"/a").len() <= p.as_bytes().len());
+        let view = p.view_item(b"/a").unwrap_or_default();
+        assert!(view.len() <= p.as_bytes().len());
         Ok(())
     }),
     ("read part", |p, out| p.read_part(b"/a", 0, out).map(drop)),

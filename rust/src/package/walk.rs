@@ -1,0 +1,271 @@
+//! The parts of a package, and the groups of pieces that are none yet.
+
+use super::entries::{lossy, ITEMS};
+use super::{Items, Package, Relationships};
+use crate::names::{is_equivalent, take_apart};
+use crate::Refusal;
+use alloc::string::String;
+use alloc::vec::Vec;
+use core::fmt;
+use core::iter::FusedIterator;
+use core::ops::Range;
+
+impl Package {
+    /// All parts, by their folded names. It goes through the items once.
+    ///
+    /// # Errors
+    ///
+    /// [`Refusal::NotAPackage`].
+    ///
+    /// ```
+    /// use zombirels::package::PackageBuf;
+    /// let mut slide = PackageBuf::start(100)?;
+    /// slide.put_item("/t3/[1].last.piece", "le")?;
+    /// slide.put_item("/T3/[0].piece", "ti")?;
+    /// slide.put_item("/Index", "1 tile")?;
+    /// slide.put_item("/t4/[0].piece", "ti")?;
+    ///
+    /// let parts = slide.parts()?;
+    /// assert_eq!(parts.len(), 2);
+    /// let shown: Vec<String> = parts.map(|part| format!("{part}: {}", part.len())).collect();
+    /// assert_eq!(shown, ["/Index: 6", "/T3: 4"]);
+    /// # Ok::<(), zombirels::Refusal>(())
+    /// ```
+    pub fn parts(&self) -> Result<Parts<'_>, Refusal> {
+        Ok(Parts {
+            left: self.totals()?.parts,
+            groups: self.groups()?,
+        })
+    }
+
+    /// The names of the parts to be whose pieces are not all there, by their
+    /// foldings, each in the spelling of its first piece.
+    ///
+    /// # Errors
+    ///
+    /// [`Refusal::NotAPackage`].
+    ///
+    /// ```
+    /// use zombirels::package::PackageBuf;
+    /// let mut slide = PackageBuf::start(100)?;
+    /// slide.put_item("/T4/[1].last.piece", "le")?;
+    /// slide.put_item("/t3", "tile")?;
+    /// assert_eq!(slide.unfinished()?.collect::<Vec<_>>(), ["/T4"]);
+    /// slide.put_item("/t4/[0].piece", "ti")?;
+    /// assert_eq!(slide.unfinished()?.count(), 0);
+    /// # Ok::<(), zombirels::Refusal>(())
+    /// ```
+    pub fn unfinished(&self) -> Result<Unfinished<'_>, Refusal> {
+        let groups = self.groups()?;
+        Ok(Unfinished { groups })
+    }
+
+    fn groups(&self) -> Result<Groups<'_>, Refusal> {
+        Ok(Groups {
+            package: self,
+            positions: 0..self.count(ITEMS)?,
+            next: None,
+        })
+    }
+}
+
+/// The groups of items with equivalent prefixes, which stand side by side:
+/// the first one's prefix, and the positions.
+#[derive(Clone)]
+struct Groups<'a> {
+    package: &'a Package,
+    /// The items that were not read yet.
+    positions: Range<usize>,
+    /// The prefix of the one before these, if it belongs to the next group.
+    next: Option<Vec<u8>>,
+}
+
+impl Groups<'_> {
+    /// The prefix of the next item.
+    fn prefix(&mut self) -> Option<Vec<u8>> {
+        let position = self.positions.next()?;
+        let mut name = self.package.field(ITEMS, position, 0);
+        let prefix = take_apart(&name).map(|item| item.prefix.len());
+        name.truncate(prefix.unwrap_or(name.len()));
+        Some(name)
+    }
+}
+
+impl Iterator for Groups<'_> {
+    type Item = (Vec<u8>, Range<usize>);
+
+    fn next(&mut self) -> Option<(Vec<u8>, Range<usize>)> {
+        let prefix = self.next.take().or_else(|| self.prefix())?;
+        let start = self.positions.start - 1;
+        while let Some(other) = self.prefix() {
+            if !is_equivalent(&prefix, &other) {
+                self.next = Some(other);
+                break;
+            }
+        }
+        let end = self.positions.start - usize::from(self.next.is_some());
+        Some((prefix, start..end))
+    }
+}
+
+/// What [`Package::parts`] answers.
+#[derive(Clone)]
+pub struct Parts<'a> {
+    groups: Groups<'a>,
+    left: usize,
+}
+
+impl<'a> Iterator for Parts<'a> {
+    type Item = Part<'a>;
+
+    fn next(&mut self) -> Option<Part<'a>> {
+        self.left = self.left.checked_sub(1)?;
+        let package = self.groups.package;
+        let is_part = |(name, _): &(Vec<u8>, _)| package.read_part(name, 0, &mut []).is_ok();
+        let (name, positions) = self.groups.find(is_part).unwrap_or_default();
+        Some(Part {
+            package,
+            name: lossy(name),
+            positions,
+        })
+    }
+
+    fn size_hint(&self) -> (usize, Option<usize>) {
+        (self.left, Some(self.left))
+    }
+}
+
+impl ExactSizeIterator for Parts<'_> {}
+
+impl FusedIterator for Parts<'_> {}
+
+/// Shows how many parts are still to come.
+impl fmt::Debug for Parts<'_> {
+    fn fmt(&self, f: &mut fmt::Formatter<'_>) -> fmt::Result {
+        f.debug_struct("Parts")
+            .field("left", &self.left)
+            .finish_non_exhaustive()
+    }
+}
+
+/// What [`Package::unfinished`] answers.
+#[derive(Clone)]
+pub struct Unfinished<'a> {
+    groups: Groups<'a>,
+}
+
+impl Iterator for Unfinished<'_> {
+    type Item = String;
+
+    fn next(&mut self) -> Option<String> {
+        let package = self.groups.package;
+        let lacks =
+            |(name, _): &(Vec<u8>, _)| package.read_part(name, 0, &mut []) == Err(Refusal::NotHeld);
+        self.groups.find(lacks).map(|(name, _)| lossy(name))
+    }
+}
+
+impl FusedIterator for Unfinished<'_> {}
+
+/// Shows the positions of the items that are still to be looked at.
+impl fmt::Debug for Unfinished<'_> {
+    fn fmt(&self, f: &mut fmt::Formatter<'_>) -> fmt::Result {
+        f.debug_struct("Unfinished")
+            .field("positions", &self.groups.positions)
+            .finish_non_exhaustive()
+    }
+}
+
+/// A part of a package that [`Package::parts`] came to. As text it is its name.
+///
+/// Its calls are those of [`Package`] with its name. In bytes that no calls
+/// made, where these may be refused, it has no content and no relationships.
+#[derive(Clone, Debug)]
+pub struct Part<'a> {
+    package: &'a Package,
+    name: String,
+    positions: Range<usize>,
+}
+
+impl<'a> Part<'a> {
+    /// The part's name, in the spelling of its first item.
+    #[must_use]
+    pub fn name(&self) -> &str {
+        &self.name
+    }
+
+    /// The length of the content.
+    #[must_use]
+    pub fn len(&self) -> usize {
+        self.package.part_len(&self.name).unwrap_or_default()
+    }
+
+    /// Whether the content has no bytes.
+    #[must_use]
+    pub fn is_empty(&self) -> bool {
+        self.len() == 0
+    }
+
+    /// The whole content.
+    #[must_use]
+    pub fn to_vec(&self) -> Vec<u8> {
+        let content = self.package.read_part_to_vec(&self.name);
+        content.unwrap_or_default()
+    }
+
+    /// A reader of the content.
+    #[cfg(feature = "std")]
+    #[must_use]
+    pub fn reader(&self) -> super::PartReader<'a> {
+        super::PartReader::new(self.package, self.name.as_bytes(), self.len())
+    }
+
+    /// The items that make the part: a whole one, or its pieces.
+    ///
+    /// ```
+    /// use zombirels::package::PackageBuf;
+    /// let mut slide = PackageBuf::start(100)?;
+    /// slide.put_item("/t3", "tiles")?;
+    /// slide.cut_part("/t3", 2)?;
+    /// let part = slide.parts()?.next().unwrap();
+    /// let pieces: Vec<&[u8]> = part.items().map(|item| item.bytes).collect();
+    /// assert_eq!(pieces, [&b"til"[..], b"es"]);
+    /// # Ok::<(), zombirels::Refusal>(())
+    /// ```
+    #[must_use]
+    pub fn items(&self) -> Items<'a> {
+        self.package.items_at(self.positions.clone())
+    }
+
+    /// The media type.
+    ///
+    /// # Errors
+    ///
+    /// [`Refusal::NoMediaType`], or as [`Package::media_type_to_string`].
+    pub fn media_type(&self) -> Result<String, Refusal> {
+        self.package.media_type_to_string(&self.name)
+    }
+
+    /// The relationships from this part.
+    ///
+    /// ```
+    /// use zombirels::package::{Mode, PackageBuf};
+    /// let mut slide = PackageBuf::start(100)?;
+    /// slide.put_item("/t3", "tile")?;
+    /// slide.put_relationship("/T3", "m1", "a:mask", Mode::Internal, "mask")?;
+    /// let part = slide.parts()?.next().unwrap();
+    /// assert_eq!(part.relationships().len(), 1);
+    /// # Ok::<(), zombirels::Refusal>(())
+    /// ```
+    #[must_use]
+    pub fn relationships(&self) -> Relationships<'a> {
+        let relationships = self.package.relationships_of(&self.name);
+        relationships.unwrap_or_else(|_| self.package.no_relationships())
+    }
+}
+
+impl fmt::Display for Part<'_> {
+    fn fmt(&self, f: &mut fmt::Formatter<'_>) -> fmt::Result {
+        f.pad(&self.name)
+    }
+}
