@@ -39,7 +39,7 @@
 //!
 //! # Features
 //!
-//! - `std`, a default one: [`PartReader`](package::PartReader), and refusals as
+//! - `std`, a default one: `package::PartReader`, and refusals as
 //!   `std::io::Error`. Without it the crate needs `alloc` alone.
 
 #![no_std]

@@ -45,8 +45,14 @@
 //! Damaged bytes, or another's, may pass for a package without being one that
 //! calls made. Every call ends on them, and changes nothing when it refuses,
 //! but what they hold may be odd. A text in them may be no UTF-8: there a call
-//! that answers a `String` is refused by [`Refusal::NotAPackage`]. So is one
-//! that would answer more content than there are bytes.
+//! that answers a `String` is refused by [`Refusal::NotAPackage`]. So is
+//! [`Package::read_part_to_vec`] of more content than there are bytes.
+//!
+//! An iterator over them still yields as many as it said, and ends. What is no
+//! UTF-8 it replaces as [`String::from_utf8_lossy`] does; a text that can't be
+//! read, or is longer than those that calls make, it yields as an empty one.
+//!
+//! [`String::from_utf8_lossy`]: alloc::string::String::from_utf8_lossy
 
 mod buf;
 mod entries;

@@ -19,6 +19,9 @@ pub(super) const DEFAULTS: u64 = 1;
 pub(super) const OVERRIDES: u64 = 2;
 pub(super) const RELATIONSHIPS: u64 = 3;
 
+/// The length that suffices for every field but an item's bytes.
+const TEXT_MAX: usize = ITEM_NAME_MAX;
+
 /// What [`Package::entry_at`] answers.
 #[derive(Clone, Copy, Debug, PartialEq, Eq, Hash)]
 pub struct EntryField {
@@ -106,11 +109,13 @@ impl Package {
         }
     }
 
-    /// A field of a held entry. Only in bytes that no calls made it may be
-    /// refused; then it has no bytes.
+    /// A field of a held entry, other than an item's bytes. Only in bytes that
+    /// no calls made it may be refused, or too long; then it has no bytes.
     pub(super) fn field(&self, set: u64, position: usize, field: u64) -> Vec<u8> {
-        let bytes = self.entry_at_to_vec(set, position as u64, field);
-        bytes.unwrap_or_default()
+        let mut out = [0; TEXT_MAX];
+        let answer = self.entry_at(set, position as u64, field, &mut out);
+        let length = answer.map_or(0, |field| field.length);
+        out[..length].to_vec()
     }
 
     /// The same as text.
@@ -130,7 +135,7 @@ impl Package {
 
     /// How many entries a set has; the first one tells.
     pub(super) fn count(&self, set: u64) -> Result<usize, Refusal> {
-        let mut answer = self.entry_at(set, 0, 0, &mut [0; ITEM_NAME_MAX]);
+        let mut answer = self.entry_at(set, 0, 0, &mut [0; TEXT_MAX]);
         if let Err(Refusal::OutputTooShort { needed }) = answer {
             answer = self.entry_at(set, 0, 0, &mut vec![0; needed]);
         }

@@ -94,14 +94,14 @@ impl Package {
             Err(Refusal::NotHeld) => {}
             whole => return whole,
         }
-        let (mut sum, mut number) = (0, 0);
+        let (mut sum, mut number) = (0_usize, 0);
         while let Ok(length) = self.find_piece(name, number, "") {
-            sum += length;
+            sum = sum.saturating_add(length);
             number += 1;
         }
         // a part has a last piece
         let last = self.find_piece(name, number, ".last")?;
-        Ok(sum + last)
+        Ok(sum.saturating_add(last))
     }
 
     fn find_piece(&self, name: &[u8], number: usize, mark: &str) -> Result<usize, Refusal> {

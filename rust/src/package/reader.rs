@@ -104,7 +104,12 @@ impl Seek for PartReader<'_> {
             SeekFrom::End(offset) => (self.length as u64).checked_add_signed(offset),
             SeekFrom::Current(offset) => self.position.checked_add_signed(offset),
         };
-        let nowhere = || Error::new(ErrorKind::InvalidInput, "a seek to before the start");
+        let nowhere = || {
+            Error::new(
+                ErrorKind::InvalidInput,
+                "the place is below 0, or too large",
+            )
+        };
         self.position = position.ok_or_else(nowhere)?;
         Ok(self.position)
     }
