@@ -37,7 +37,9 @@ fn archive_folder() -> PathBuf {
 /// Links the archive by its installed name, from a copy.
 fn link(archive: &Path) {
     let out = PathBuf::from(env::var_os("OUT_DIR").unwrap_or_default());
-    if let Err(error) = fs::copy(archive, out.join(NAMES[0])) {
+    // its bytes alone: an installed archive may be read-only
+    let copied = fs::read(archive).and_then(|bytes| fs::write(out.join(NAMES[0]), bytes));
+    if let Err(error) = copied {
         fail(&format!("{} can't be copied: {error}", archive.display()));
     }
     println!("cargo:rustc-link-search=native={}", out.display());

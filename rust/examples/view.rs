@@ -7,6 +7,7 @@
 //! slide in `samples/` is shown if none is given.
 
 use std::error::Error;
+use std::io::Read;
 use std::path::Path;
 use std::{env, fs};
 use zombirels::package::{Mode, Package, PackageBuf, Part, TypeOrigin};
@@ -68,7 +69,7 @@ fn put_link(slide: &mut Package, line: &[u8]) {
 }
 
 /// The parts with their media types, sizes, pieces and first bytes.
-fn show_parts(slide: &Package) -> Result<(), Refusal> {
+fn show_parts(slide: &Package) -> Result<(), Box<dyn Error>> {
     let totals = slide.totals()?;
     let (parts, items, charge) = (totals.parts, totals.items, totals.charge);
     println!("\n{parts} parts of {items} items, {charge} of {CAPACITY} bytes");
@@ -83,8 +84,9 @@ fn show_parts(slide: &Package) -> Result<(), Refusal> {
         };
         let (media_type, bytes) = (media_type(slide, &part)?, part.len());
         println!("  {part} ({media_type}): {bytes} bytes{pieces}");
-        let content = part.to_vec();
-        println!("    {}", content[..bytes.min(48)].escape_ascii());
+        let mut begin = Vec::new();
+        part.reader().take(48).read_to_end(&mut begin)?;
+        println!("    {}", begin.escape_ascii());
     }
     Ok(())
 }

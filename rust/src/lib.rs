@@ -12,7 +12,7 @@
 //! slide.put_default("tiff", "image/tiff")?;
 //! slide.put_item("/Tiles/T3.tiff/[1].last.piece", "world")?; // in any order
 //! slide.put_item("/tiles/t3.tiff/[0].piece", "hello ")?; // and any letter case
-//! slide.put_relationship("/", "first", "http://example.com/tile", Mode::Internal, "tiles/t3.tiff")?;
+//! slide.put_relationship("/", "first", "a:tile", Mode::Internal, "tiles/t3.tiff")?;
 //!
 //! for part in slide.parts()? {
 //!     println!("{part}: {}, {} bytes", part.media_type()?, part.len());

@@ -3,12 +3,13 @@
 //! A [`Script`] gathers calls as bytes; [`Package::run`] makes them one after
 //! the other, each on the package as the one before left it, and writes all
 //! their answers to one lent output, [`Package::run_to_buf`] to one of its own.
-//! A refused call changes nothing and the
-//! run goes on behind it. A script may be stored, sent, and run many times. It
-//! takes about as long as its calls by themselves: what it saves is the way to
-//! the engine, for a caller to whom that is long.
+//! A refused call changes nothing and the run goes on behind it. A script may
+//! be stored, sent, and run many times. It takes about as long as its calls by
+//! themselves: what it saves is the way to the engine, for a caller to whom
+//! that is long.
 //!
 //! ```
+//! use zombirels::names::MEDIA_TYPE_MAX;
 //! use zombirels::package::PackageBuf;
 //! use zombirels::script::Script;
 //! use zombirels::Refusal;
@@ -18,13 +19,12 @@
 //!     .put_item("/left/t3.tiff", "tile")
 //!     .put_item("/LEFT/T3.TIFF", "another")
 //!     .put_default("tiff", "image/tiff")
-//!     .media_type("/left/t3.tiff", 127)
+//!     .media_type("/left/t3.tiff", MEDIA_TYPE_MAX)
 //!     .read_part("/left/t3.tiff", 1, 64)
 //!     .totals();
 //!
 //! let mut slide = PackageBuf::start(1000)?;
 //! let run = slide.run_to_buf(&script);
-//!
 //! let answers: Vec<_> = run.answers().collect();
 //! assert_eq!(answers[0].done(), Ok(()));
 //! assert_eq!(answers[1].done(), Err(Refusal::Taken));

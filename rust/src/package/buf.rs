@@ -244,3 +244,10 @@ impl From<FromBytesError> for Refusal {
         Refusal::NotAPackage
     }
 }
+
+#[cfg(feature = "std")]
+impl From<FromBytesError> for std::io::Error {
+    fn from(error: FromBytesError) -> std::io::Error {
+        Refusal::from(error).into()
+    }
+}
