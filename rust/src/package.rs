@@ -145,9 +145,9 @@ impl Package {
         Ok(package)
     }
 
-    /// Takes `buffer` for a package that was started in it before, to be
-    /// looked at. It isn't looked at yet: if it is none, every call is refused
-    /// by [`Refusal::NotAPackage`].
+    /// Takes `buffer` for a package that was started in it before. Nothing is
+    /// looked at yet: if it is none, every call is refused by
+    /// [`Refusal::NotAPackage`].
     ///
     /// ```
     /// use zombirels::package::{Package, PackageBuf};

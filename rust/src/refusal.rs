@@ -25,7 +25,8 @@ pub enum Refusal {
     BadSuffix,
     /// 7: not a media type, or not an extension.
     BadType,
-    /// 8: not an id, not a relationship type, or not a mode.
+    /// 8: not an id, not a relationship type, or not a mode; for
+    /// [`entry_at`](crate::package::Package::entry_at) no such set or field.
     BadRelationshipField,
     /// 9: not a target, not a package IRI, or not a pack IRI.
     BadTarget,
@@ -85,7 +86,7 @@ impl Refusal {
             Refusal::Reserved => "the name is reserved",
             Refusal::BadSuffix => "not a piece suffix",
             Refusal::BadType => "not a media type or not an extension",
-            Refusal::BadRelationshipField => "not an id, relationship type or mode",
+            Refusal::BadRelationshipField => "not an id, relationship type, mode or field",
             Refusal::BadTarget => "not a target, package IRI or pack IRI",
             Refusal::Taken => "the name or key is taken",
             Refusal::Derivable => "one name would be derivable from another",
