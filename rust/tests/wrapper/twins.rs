@@ -128,6 +128,44 @@ const TEXTS: &[&[u8]] = &[
     b"../b",
 ];
 
+/// What a call gives over a lent output, and its twin.
+type Both = (Result<String, Refusal>, Result<String, Refusal>);
+
+fn of_one(a: &[u8]) -> [Both; 3] {
+    let address = iri::resolve_pack_iri_to_string(a);
+    [
+        (
+            lent(|out| iri::relationships_part(a, out)),
+            iri::relationships_part_to_string(a),
+        ),
+        (
+            lent(|out| iri::source_of_relationships_part(a, out)),
+            iri::source_of_relationships_part_to_string(a),
+        ),
+        (
+            lent(|out| iri::resolve_pack_iri(a, out).map(|both| both.package + both.part)),
+            address.map(|address| address.package + &address.part.unwrap_or_default()),
+        ),
+    ]
+}
+
+fn of_two(a: &[u8], b: &[u8]) -> [Both; 3] {
+    [
+        (
+            lent(|out| iri::resolve_reference(a, b, out)),
+            iri::resolve_reference_to_string(a, b),
+        ),
+        (
+            lent(|out| iri::resolve_target(a, b, out)),
+            iri::resolve_target_to_string(a, b),
+        ),
+        (
+            lent(|out| iri::compose_pack_iri(a, b, out)),
+            iri::compose_pack_iri_to_string(a, b),
+        ),
+    ]
+}
+
 #[test]
 fn of_iris() {
     let mut random = Random::new("twins of IRIs");
@@ -138,34 +176,7 @@ fn of_iris() {
     };
     for _ in 0..20_000 {
         let (a, b) = (text(&mut random), text(&mut random));
-        let pairs = [
-            (
-                lent(|out| iri::resolve_reference(&a, &b, out)),
-                iri::resolve_reference_to_string(&a, &b),
-            ),
-            (
-                lent(|out| iri::resolve_target(&a, &b, out)),
-                iri::resolve_target_to_string(&a, &b),
-            ),
-            (
-                lent(|out| iri::compose_pack_iri(&a, &b, out)),
-                iri::compose_pack_iri_to_string(&a, &b),
-            ),
-            (
-                lent(|out| iri::relationships_part(&a, out)),
-                iri::relationships_part_to_string(&a),
-            ),
-            (
-                lent(|out| iri::source_of_relationships_part(&a, out)),
-                iri::source_of_relationships_part_to_string(&a),
-            ),
-            (
-                lent(|out| iri::resolve_pack_iri(&a, out).map(|both| both.package + both.part)),
-                iri::resolve_pack_iri_to_string(&a)
-                    .map(|address| address.package + &address.part.unwrap_or_default()),
-            ),
-        ];
-        for (lent, twin) in pairs {
+        for (lent, twin) in of_one(&a).into_iter().chain(of_two(&a, &b)) {
             tally.add(lent.is_ok());
             assert_eq!(lent, twin, "{} {}", show(&a), show(&b));
         }
