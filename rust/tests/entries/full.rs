@@ -135,7 +135,7 @@ fn pieces_of_one_part() {
         _ => spelled(format!("/t/[{i}].piece"), i),
     };
     for i in (0..ITEMS_MAX).rev() {
-        let put = package.put_item(piece(i).as_bytes(), &[i as u8]);
+        let put = package.put_item(piece(i).as_bytes(), [i as u8]);
         put.expect("room");
     }
     let names: Vec<String> = (0..ITEMS_MAX).map(piece).collect();

@@ -54,7 +54,7 @@ fn the_longest_fields() {
     let (id, kind, target) = (filled("_", 63), filled("a:", 255), filled("b:", 255));
     let mut buffer = buffer(2000);
     let package = &mut Package::start(&mut buffer, 2000).expect("room");
-    package.put_item(&item, &[7; 300]).expect("room");
+    package.put_item(&item, [7; 300]).expect("room");
     package.put_default(&extension, &media_type).expect("room");
     package.put_override(&name, &media_type).expect("room");
     let put = package.put_relationship(&name, &id, &kind, Mode::External, &target);
