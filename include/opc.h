@@ -104,7 +104,7 @@ OPC_MUST_USE static inline const char *opc_reason(uint64_t number)
     case OPC_RESERVED: return "the name is reserved";
     case OPC_BAD_SUFFIX: return "not a piece suffix";
     case OPC_BAD_TYPE: return "not a media type or not an extension";
-    case OPC_BAD_RELATIONSHIP_FIELD: return "not an id, relationship type or mode";
+    case OPC_BAD_RELATIONSHIP_FIELD: return "not an id, relationship type, mode or field";
     case OPC_BAD_TARGET: return "not a target, package IRI or pack IRI";
     case OPC_TAKEN: return "the name or key is taken";
     case OPC_DERIVABLE: return "one name would be derivable from another";

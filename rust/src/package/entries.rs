@@ -74,7 +74,8 @@ impl Package {
         Ok(EntryField { length, entries })
     }
 
-    /// A field of the entry at a position of a set.
+    /// A field of the entry at a position of a set. An item's bytes, which may
+    /// be many, are asked for their number first.
     ///
     /// # Errors
     ///
@@ -88,25 +89,10 @@ impl Package {
     /// # Ok::<(), zombirels::Refusal>(())
     /// ```
     pub fn entry_at_to_vec(&self, set: u64, position: u64, field: u64) -> Result<Vec<u8>, Refusal> {
-        owned::to_vec(self.field_max(set, field), |out| {
+        owned::to_vec(field_max(set, field), |out| {
             let answer = self.entry_at(set, position, field, out)?;
             Ok(answer.length)
         })
-    }
-
-    /// The length that suffices for a field.
-    fn field_max(&self, set: u64, field: u64) -> usize {
-        match (set, field) {
-            (ITEMS, 0) => ITEM_NAME_MAX,
-            (ITEMS, 1) => self.0.len(),
-            (DEFAULTS, 0) => EXTENSION_MAX,
-            (DEFAULTS | OVERRIDES, 1) => MEDIA_TYPE_MAX,
-            (OVERRIDES | RELATIONSHIPS, 0) => PART_NAME_MAX,
-            (RELATIONSHIPS, 1) => ID_MAX,
-            (RELATIONSHIPS, 2 | 4) => IRI_MAX,
-            (RELATIONSHIPS, 3) => 1,
-            _ => 0,
-        }
     }
 
     /// A field of a held entry, other than an item's bytes. Only in bytes that
@@ -144,6 +130,20 @@ impl Package {
             Err(Refusal::NotAPackage) => Err(Refusal::NotAPackage),
             Err(_) => Ok(0),
         }
+    }
+}
+
+/// The length that suffices for a field, other than an item's bytes.
+fn field_max(set: u64, field: u64) -> usize {
+    match (set, field) {
+        (ITEMS, 0) => ITEM_NAME_MAX,
+        (DEFAULTS, 0) => EXTENSION_MAX,
+        (DEFAULTS | OVERRIDES, 1) => MEDIA_TYPE_MAX,
+        (OVERRIDES | RELATIONSHIPS, 0) => PART_NAME_MAX,
+        (RELATIONSHIPS, 1) => ID_MAX,
+        (RELATIONSHIPS, 2 | 4) => IRI_MAX,
+        (RELATIONSHIPS, 3) => 1,
+        _ => 0,
     }
 }
 

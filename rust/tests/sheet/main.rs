@@ -9,6 +9,7 @@ mod limits;
 mod lines;
 mod listings;
 mod random;
+mod readme;
 #[path = "../support/mod.rs"]
 mod support;
 
