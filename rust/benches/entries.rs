@@ -1,6 +1,7 @@
 //! Entries by their positions: all names of 256 whole items beside the same
-//! names by the call for parts, and a pass over each full set beside the
-//! reference, which sorts a set once for a pass.
+//! names by the call for parts, all parts by the wrapper's iterator and by that
+//! call, and a pass over each full set beside the reference, which sorts a set
+//! once for a pass.
 
 mod support;
 
@@ -90,6 +91,28 @@ fn names() {
     println!("entry at, 256 items against 16: {growth:.2} times");
 }
 
+/// The names of all parts, by the wrapper's iterator and one by one.
+fn walks() {
+    heading("part", "parts", "part at");
+    for count in [16, ITEMS_MAX] {
+        let mut buffer = buffer();
+        let pair = tiles(&mut buffer, count);
+        let package = &pair.package;
+        let mut walk = |_| {
+            let parts = package.parts().expect("a package");
+            parts.map(|part| part.name().len()).sum()
+        };
+        let mut ask = |_| {
+            let name = |i| package.part_at_to_string(i).expect("a part");
+            (0..count as u64).map(|i| name(i).len()).sum()
+        };
+        assert_eq!(walk(0), ask(0));
+        let times: [f64; 2] = support::in_turn(200, 1, [&mut walk, &mut ask]);
+        let [walk, ask] = times.map(|time| time / count as f64);
+        print_line(&format!("{count} parts"), walk, ask);
+    }
+}
+
 /// Full sets on both sides.
 fn fill(pair: &mut Pair) {
     let (media_type, kind) = (
@@ -171,5 +194,6 @@ fn passes() {
 
 fn main() {
     names();
+    walks();
     passes();
 }
