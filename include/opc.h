@@ -62,6 +62,9 @@ OPC_MUST_USE static inline uint8_t *opc_no_bytes(void)
     return none;
 }
 
+/* A string literal as the two arguments of a text: its bytes without the NUL, and how many these are. */
+#define OPC_TEXT(literal) (const uint8_t *)(literal), sizeof(literal) - 1
+
 /* The numbers of a reply. */
 enum opc_number {
     OPC_ACCEPTED = 0,
@@ -167,15 +170,19 @@ typedef struct opc_reply {
 
 /* The sets of a package, and the fields of their entries, for opc_entry_at. */
 #define OPC_ITEMS 0
+#define OPC_ITEM_FIELDS 2 /* how many there are */
 #define OPC_ITEM_NAME 0  /* as it was put, with the suffix of a piece */
 #define OPC_ITEM_BYTES 1 /* as many as the package has room for */
 #define OPC_DEFAULTS 1
+#define OPC_DEFAULT_FIELDS 2
 #define OPC_DEFAULT_EXTENSION 0
 #define OPC_DEFAULT_TYPE 1
 #define OPC_OVERRIDES 2
+#define OPC_OVERRIDE_FIELDS 2
 #define OPC_OVERRIDE_NAME 0
 #define OPC_OVERRIDE_TYPE 1
 #define OPC_RELATIONSHIPS 3
+#define OPC_RELATIONSHIP_FIELDS 5
 #define OPC_RELATIONSHIP_SOURCE 0
 #define OPC_RELATIONSHIP_ID 1
 #define OPC_RELATIONSHIP_TYPE 2
@@ -258,12 +265,13 @@ OPC_MUST_USE opc_reply opc_source_of_relationships_part(const uint8_t *name, siz
 
 /*
  * PACKAGES. `package` is the whole lent buffer, at least OPC_BUFFER_LENGTH(capacity) bytes, in every call; its bytes
- * may be stored, mapped or moved between calls. Every call but opc_start, opc_view_item and opc_run is refused by 1
- * before all else if the buffer is no package; the lists of refusals leave that out. An empty content, text or output
- * is OPC_NO_BYTES, 0, and never NULL.
+ * may be stored, mapped or moved between calls. They are laid out in the engine's own way, not as a ZIP archive. Every
+ * call but opc_start, opc_view_item and opc_run is refused by 1 before all else if the buffer is no package; the lists
+ * of refusals leave that out. An empty content, text or output is OPC_NO_BYTES, 0, and never NULL.
  */
 
-/* Makes an empty package of the buffer, whatever it held.
+/* Makes an empty package of the buffer, whatever it held. The capacity is the most that the charge may be: the bytes of
+   all fields of all entries, names with their suffixes. No call tells the capacity afterwards.
    Refusals: 2. */
 OPC_MUST_USE opc_reply opc_start(uint8_t *package, size_t package_length, uint64_t capacity) OPC_NOT_NULL;
 
@@ -300,8 +308,9 @@ OPC_MUST_USE opc_reply opc_part_at(const uint8_t *package, size_t package_length
    stand by their folded prefixes, a whole one or its pieces by number; Defaults by their folded extensions, Overrides
    by their folded names; relationships by their folded sources, then by the bytes of their ids. The most bytes that a
    text of the field's kind has suffice (OPC_ITEM_NAME_MAX, OPC_IRI_MAX, ..); an item's bytes are within the capacity.
-   It is no call of document 01, and none of a script.
-   Refusals: 8 if there is no such set, or its entries have no such field; 13 past the last entry; 3. */
+   It is no call of document 01, by whose rule all others go, and none of a script.
+   Refusals: 8 if there is no such set, or its entries have no such field; 13 past the last entry, so at position 0 of
+   an empty set; 3. */
 OPC_MUST_USE opc_reply opc_entry_at(const uint8_t *package, size_t package_length,
                                     uint64_t set, uint64_t position, uint64_t field,
                                     uint8_t *out, size_t out_length) OPC_NOT_NULL;
@@ -370,7 +379,7 @@ OPC_MUST_USE opc_reply opc_drop_relationship(uint8_t *package, size_t package_le
  */
 
 /* Writes the IRI that a relationship leads to from the package IRI `base`: its length, its mode, and 1 if the part is
-   held, else 0. OPC_PACK_IRI_MAX bytes suffice.
+   held, else 0, as for pieces that are no part yet. OPC_PACK_IRI_MAX bytes suffice.
    Refusals: 4, 5 for the source; 8 for the id; 9 for `base`; 13; 3. */
 OPC_MUST_USE opc_reply opc_resolve_relationship(const uint8_t *package, size_t package_length,
                                                 const uint8_t *source, size_t source_length,

@@ -1,4 +1,4 @@
-/* A small viewer: fills a slide in one static buffer, lists what it holds and follows its link. It prints viewer.out. */
+/* A small viewer: fills a slide in a static buffer, lists what it holds and follows its link. It prints viewer.out. */
 #include <inttypes.h>
 #include <stdio.h>
 #include <stdlib.h>
@@ -9,7 +9,6 @@
 #define CAPACITY 10000
 #define BASE "http://slides.example.org/ovary-17.opc"
 #define SLIDE slide, sizeof slide
-#define TEXT(text) (const uint8_t *)(text), sizeof(text) - 1
 
 static uint8_t slide[OPC_BUFFER_LENGTH(CAPACITY)];
 
@@ -32,13 +31,14 @@ static opc_reply must(const char *what, opc_reply reply)
 static void load(void)
 {
     must("start", opc_start(SLIDE, CAPACITY));
-    must("piece 1", opc_put_item(SLIDE, TEXT("/Left/T3.TIF/[1].LAST.piece"), TEXT("orld")));
-    must("piece 0", opc_put_item(SLIDE, TEXT("/left/t3.tif/[0].piece"), TEXT("hello w")));
-    must("sheet", opc_put_item(SLIDE, TEXT("/counts.xml"), TEXT("<counts/>")));
-    must("Default", opc_put_default(SLIDE, TEXT("tif"), TEXT("image/tiff")));
-    must("link", opc_put_relationship(SLIDE, TEXT("/counts.xml"), TEXT("tile"), TEXT("http://schemas.example.org/tile"),
-                                      OPC_INTERNAL, TEXT("left/t3.tif")));
-    tell("a tile named as the folder of another", opc_put_item(SLIDE, TEXT("/left"), TEXT("x")));
+    must("piece 1", opc_put_item(SLIDE, OPC_TEXT("/Left/T3.TIF/[1].LAST.piece"), OPC_TEXT("orld")));
+    must("piece 0", opc_put_item(SLIDE, OPC_TEXT("/left/t3.tif/[0].piece"), OPC_TEXT("hello w")));
+    must("sheet", opc_put_item(SLIDE, OPC_TEXT("/counts.xml"), OPC_TEXT("<counts/>")));
+    must("Default", opc_put_default(SLIDE, OPC_TEXT("tif"), OPC_TEXT("image/tiff")));
+    must("link", opc_put_relationship(SLIDE, OPC_TEXT("/counts.xml"), OPC_TEXT("tile"),
+                                      OPC_TEXT("http://schemas.example.org/tile"), OPC_INTERNAL,
+                                      OPC_TEXT("left/t3.tif")));
+    tell("a tile named as the folder of another", opc_put_item(SLIDE, OPC_TEXT("/left"), OPC_TEXT("x")));
 }
 
 static void show_parts(void)
@@ -46,8 +46,8 @@ static void show_parts(void)
     uint8_t name[OPC_PART_NAME_MAX], type[OPC_MEDIA_TYPE_MAX], begin[20];
     opc_reply totals = must("totals", opc_totals(SLIDE));
 
-    printf("\n%" PRIu64 " parts of %" PRIu64 " items, %" PRIu64 " of %d bytes\n", totals.second, totals.first, totals.third,
-           CAPACITY);
+    printf("\n%" PRIu64 " parts of %" PRIu64 " items, %" PRIu64 " of %d bytes\n", totals.second, totals.first,
+           totals.third, CAPACITY);
     for (uint64_t i = 0; i < totals.second; i++) {
         size_t length = (size_t)must("part", opc_part_at(SLIDE, i, name, sizeof name)).first;
         size_t read = (size_t)must("content", opc_read_part(SLIDE, name, length, 0, begin, sizeof begin)).first;
@@ -91,20 +91,21 @@ static void show_set(const char *title, uint64_t set, uint64_t fields)
 static void show_link(void)
 {
     uint8_t iri[OPC_PACK_IRI_MAX];
-    opc_reply link = must("resolve", opc_resolve_relationship(SLIDE, TEXT("/COUNTS.xml"), TEXT("tile"), TEXT(BASE), iri,
-                                                              sizeof iri));
+    opc_reply link = must("resolve", opc_resolve_relationship(SLIDE, OPC_TEXT("/COUNTS.xml"), OPC_TEXT("tile"),
+                                                              OPC_TEXT(BASE), iri, sizeof iri));
+    const char *note = link.third == 1 ? "held" : "not held";
 
-    printf("\nthe tile of the count sheet: %.*s, %s\n", (int)link.first, (char *)iri, link.third == 1 ? "held" : "not held");
+    printf("\nthe tile of the count sheet: %.*s, %s\n", (int)link.first, (char *)iri, note);
 }
 
 int main(void)
 {
     load();
     show_parts();
-    show_set("items", OPC_ITEMS, 2);
-    show_set("Defaults", OPC_DEFAULTS, 2);
-    show_set("Overrides", OPC_OVERRIDES, 2);
-    show_set("relationships", OPC_RELATIONSHIPS, 5);
+    show_set("items", OPC_ITEMS, OPC_ITEM_FIELDS);
+    show_set("Defaults", OPC_DEFAULTS, OPC_DEFAULT_FIELDS);
+    show_set("Overrides", OPC_OVERRIDES, OPC_OVERRIDE_FIELDS);
+    show_set("relationships", OPC_RELATIONSHIPS, OPC_RELATIONSHIP_FIELDS);
     show_link();
     return fflush(stdout) == 0 ? EXIT_SUCCESS : EXIT_FAILURE;
 }

@@ -10,7 +10,7 @@ use std::error::Error;
 use std::io::Read;
 use std::path::Path;
 use std::{env, fs};
-use zombirels::package::{Mode, Package, PackageBuf, Part, TypeOrigin};
+use zombirels::package::{Mode, Package, PackageBuf, Part};
 use zombirels::Refusal;
 
 const CAPACITY: u64 = 30_000;
@@ -82,7 +82,7 @@ fn show_parts(slide: &Package) -> Result<(), Box<dyn Error>> {
             1 => String::new(),
             _ => format!(", pieces of {}", sizes.join(", ")),
         };
-        let (media_type, bytes) = (media_type(slide, &part)?, part.len());
+        let (media_type, bytes) = (media_type(&part), part.len());
         println!("  {part} ({media_type}): {bytes} bytes{pieces}");
         let mut begin = Vec::new();
         part.reader().take(48).read_to_end(&mut begin)?;
@@ -92,13 +92,11 @@ fn show_parts(slide: &Package) -> Result<(), Box<dyn Error>> {
 }
 
 /// The media type of a part, and the entry that it comes from.
-fn media_type(slide: &Package, part: &Part) -> Result<String, Refusal> {
-    let origin = match slide.type_origin_to_string(part.name())? {
-        TypeOrigin::Override(name) => format!("Override {name}"),
-        TypeOrigin::Default(extension) => format!("Default {extension}"),
-        TypeOrigin::Neither => return Ok("no type".to_string()),
-    };
-    Ok(format!("{} by {origin}", part.media_type()?))
+fn media_type(part: &Part) -> String {
+    match part.media_type() {
+        Some(media_type) => format!("{media_type} by {}", part.type_origin()),
+        None => "no type".to_string(),
+    }
 }
 
 /// Where each link leads, and whether the part is there.

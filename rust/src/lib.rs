@@ -15,7 +15,8 @@
 //! slide.put_relationship("/", "first", "a:tile", Mode::Internal, "tiles/t3.tiff")?;
 //!
 //! for part in slide.parts()? {
-//!     println!("{part}: {}, {} bytes", part.media_type()?, part.len());
+//!     let media_type = part.media_type().unwrap_or("no type".into());
+//!     println!("{part}: {media_type}, {} bytes", part.len());
 //!     assert_eq!(part.to_vec(), b"hello world");
 //! }
 //! for link in slide.relationships_of("/")? {

@@ -20,6 +20,9 @@
 //! be changed as well, a [`PackageBuf`] in its own. They may be stored, mapped
 //! or sent, and opened again. The engine allocates nothing.
 //!
+//! The bytes are laid out in the engine's own way, not as a ZIP archive: it
+//! opens what it made, and no `.docx`.
+//!
 //! ```
 //! use zombirels::package::PackageBuf;
 //! use zombirels::Refusal;
@@ -61,6 +64,7 @@ mod limits;
 mod listing;
 mod mode;
 mod origin;
+mod part;
 mod parts;
 mod pieces;
 #[cfg(feature = "std")]
@@ -81,11 +85,12 @@ pub use listing::{
 };
 pub use mode::Mode;
 pub use origin::TypeOrigin;
+pub use part::Part;
 pub use pieces::Cut;
 #[cfg(feature = "std")]
 pub use reader::PartReader;
 pub use relationships::{Resolved, ResolvedIri};
-pub use walk::{Part, Parts, Unfinished};
+pub use walk::{Parts, Unfinished};
 
 use crate::ffi;
 use crate::lent::{self, ask};
@@ -126,13 +131,16 @@ pub struct Totals {
     pub items: usize,
     /// How many parts they make. Pieces are none before the last has come.
     pub parts: usize,
-    /// The bytes that all fields of all entries have together.
+    /// The bytes that all fields of all entries have together: names with
+    /// their suffixes, contents, extensions, types, and of relationships the
+    /// source, id, type and target.
     pub charge: usize,
 }
 
 impl Package {
     /// Makes an empty package of `buffer`, whatever it held. `capacity` is the
-    /// greatest charge that the package takes.
+    /// greatest [charge](Totals::charge) that the package takes; no call tells
+    /// it afterwards.
     ///
     /// # Errors
     ///
@@ -182,7 +190,10 @@ impl Package {
         unsafe { &mut *(core::ptr::from_mut(buffer) as *mut Package) }
     }
 
-    /// As [`Package::open`], of a package alone.
+    /// As [`Package::open`], of a package alone: its first bytes have the mark,
+    /// the format and numbers that fit the length. There is no checksum, and
+    /// other bytes aren't looked at: see
+    /// [above](self#bytes-that-no-calls-made).
     ///
     /// # Errors
     ///

@@ -147,7 +147,10 @@ impl fmt::Display for Refusal {
 
 impl core::error::Error for Refusal {}
 
-/// An error of the kind that comes next to the refusal, which is its source.
+/// An error that wraps the refusal, with the feature `std`. Its kind is
+/// `InvalidData` for [`Refusal::NotAPackage`], `NotFound` for
+/// [`Refusal::NotHeld`] and [`Refusal::NoMediaType`], `AlreadyExists` for
+/// [`Refusal::Taken`], `InvalidInput` for the others.
 ///
 /// ```
 /// use std::io;
@@ -155,6 +158,8 @@ impl core::error::Error for Refusal {}
 /// let error = io::Error::from(Refusal::NotHeld);
 /// assert_eq!(error.kind(), io::ErrorKind::NotFound);
 /// assert_eq!(error.to_string(), "not held (refusal 13)");
+/// let refusal = error.get_ref().and_then(|inner| inner.downcast_ref::<Refusal>());
+/// assert_eq!(refusal.map(|refusal| refusal.number()), Some(13));
 /// ```
 #[cfg(feature = "std")]
 impl From<Refusal> for std::io::Error {

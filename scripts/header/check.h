@@ -7,7 +7,7 @@
 
 #include "opc.h"
 
-#define TEXT(text) (const uint8_t *)(text), sizeof(text) - 1
+#define TEXT(text) OPC_TEXT(text)
 #define CHECK(condition)                                                       \
     do {                                                                       \
         if (!(condition)) {                                                    \

@@ -21,6 +21,33 @@ use core::ops::{Deref, DerefMut};
 /// assert_eq!(kept.read_part_to_vec("/t3")?, b"tile");
 /// # Ok::<(), zombirels::Refusal>(())
 /// ```
+///
+/// A package doesn't grow. What it holds is put into a larger one, entry by
+/// entry:
+///
+/// ```
+/// # use zombirels::package::{Mode, PackageBuf};
+/// # let mut slide = PackageBuf::start(100)?;
+/// # slide.put_item("/t3/[0].piece", "tile")?;
+/// # slide.put_default("tiff", "image/tiff")?;
+/// # slide.put_override("/t3", "image/tiff")?;
+/// # slide.put_relationship("/", "r1", "a:tile", Mode::Internal, "t3")?;
+/// let mut larger = PackageBuf::start(1000)?;
+/// for item in slide.items()? {
+///     larger.put_item(item.name, item.bytes)?;
+/// }
+/// for entry in slide.defaults()? {
+///     larger.put_default(entry.extension, entry.media_type)?;
+/// }
+/// for entry in slide.overrides()? {
+///     larger.put_override(entry.name, entry.media_type)?;
+/// }
+/// for link in slide.relationships()? {
+///     larger.put_relationship(link.source, link.id, link.kind, link.mode, link.target)?;
+/// }
+/// # assert_eq!(larger.totals(), slide.totals());
+/// # Ok::<(), zombirels::Refusal>(())
+/// ```
 #[derive(Clone)]
 pub struct PackageBuf {
     bytes: Vec<u8>,
@@ -133,6 +160,25 @@ impl AsRef<Package> for PackageBuf {
     }
 }
 
+/// The package's bytes, as to store them:
+///
+/// ```no_run
+/// # let slide = zombirels::package::PackageBuf::start(100)?;
+/// std::fs::write("slide.package", &slide)?;
+/// # Ok::<(), Box<dyn std::error::Error>>(())
+/// ```
+impl AsRef<[u8]> for PackageBuf {
+    fn as_ref(&self) -> &[u8] {
+        &self.bytes
+    }
+}
+
+impl AsRef<[u8]> for Package {
+    fn as_ref(&self) -> &[u8] {
+        self.as_bytes()
+    }
+}
+
 impl AsMut<Package> for PackageBuf {
     fn as_mut(&mut self) -> &mut Package {
         self
@@ -219,6 +265,12 @@ impl FromBytesError {
     #[must_use]
     pub fn as_bytes(&self) -> &[u8] {
         &self.bytes
+    }
+
+    /// Why they are not taken: [`Refusal::NotAPackage`].
+    #[must_use]
+    pub const fn refusal(&self) -> Refusal {
+        Refusal::NotAPackage
     }
 }
 

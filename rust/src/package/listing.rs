@@ -220,7 +220,7 @@ fn read_relationship(package: &Package, position: usize) -> Relationship {
 }
 
 /// The first position that doesn't go before what is sought, found by halving.
-fn first(mut range: Range<usize>, goes_before: impl Fn(usize) -> bool) -> usize {
+pub(super) fn first(mut range: Range<usize>, goes_before: impl Fn(usize) -> bool) -> usize {
     while !range.is_empty() {
         let middle = range.start + range.len() / 2;
         if goes_before(middle) {

@@ -7,6 +7,7 @@ use crate::names::PART_NAME_MAX;
 use crate::owned;
 use crate::Refusal;
 use alloc::string::String;
+use core::fmt;
 
 /// The entry that a part's media type comes from, with its key as it was
 /// spelled when it was put: `&[u8]` in a lent output, or a `String`.
@@ -48,6 +49,17 @@ impl<K> TypeOrigin<K> {
         match self {
             TypeOrigin::Override(key) | TypeOrigin::Default(key) => Some(key),
             TypeOrigin::Neither => None,
+        }
+    }
+}
+
+/// The kind and the key: `Override /t3.tiff`, `Default tiff`, or `neither`.
+impl<K: fmt::Display> fmt::Display for TypeOrigin<K> {
+    fn fmt(&self, f: &mut fmt::Formatter<'_>) -> fmt::Result {
+        match self {
+            TypeOrigin::Override(name) => write!(f, "Override {name}"),
+            TypeOrigin::Default(extension) => write!(f, "Default {extension}"),
+            TypeOrigin::Neither => f.write_str("neither"),
         }
     }
 }

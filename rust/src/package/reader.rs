@@ -7,7 +7,8 @@ use alloc::vec::Vec;
 use core::fmt;
 use std::io::{Error, ErrorKind, Read, Result, Seek, SeekFrom};
 
-/// Reads the content of a part, from any place on.
+/// Reads the content of a part, from any place on. It comes with the feature
+/// `std`.
 ///
 /// ```
 /// use std::io::{Read, Seek, SeekFrom};
@@ -32,7 +33,8 @@ pub struct PartReader<'a> {
 }
 
 impl Package {
-    /// A reader of a part's content, from its first byte on.
+    /// A reader of a part's content, from its first byte on. It comes with the
+    /// feature `std`.
     ///
     /// # Errors
     ///

@@ -15,7 +15,8 @@ pub struct Resolved {
     pub length: usize,
     /// Internal: the IRI is the pack IRI of a part name.
     pub mode: Mode,
-    /// Whether that part is held; of an external target never.
+    /// Whether that part is held: not of pieces that are no part yet, and never
+    /// of an external target.
     pub held: bool,
 }
 
@@ -38,7 +39,8 @@ pub struct ResolvedIri {
     pub iri: String,
     /// Internal: the IRI is the pack IRI of a part name.
     pub mode: Mode,
-    /// Whether that part is held; of an external target never.
+    /// Whether that part is held: not of pieces that are no part yet, and never
+    /// of an external target.
     pub held: bool,
 }
 
@@ -164,9 +166,12 @@ impl Package {
     /// use zombirels::package::{Mode, PackageBuf};
     /// let mut slide = PackageBuf::start(200)?;
     /// slide.put_relationship("/t3", "m1", "a:mask", Mode::Internal, "mask")?;
-    /// let mask = slide.resolve_relationship_to_string("/t3", "m1", "http://h/s.opc")?;
-    /// assert_eq!(mask.iri, "pack://http%3A,,h,s.opc/mask");
-    /// assert!(!mask.held);
+    /// for link in slide.relationships()? {
+    ///     let base = "http://h/s.opc";
+    ///     let target = slide.resolve_relationship_to_string(&link.source, &link.id, base)?;
+    ///     assert_eq!(target.iri, "pack://http%3A,,h,s.opc/mask");
+    ///     assert!(!target.held);
+    /// }
     /// # Ok::<(), zombirels::Refusal>(())
     /// ```
     pub fn resolve_relationship_to_string(

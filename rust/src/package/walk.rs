@@ -1,8 +1,8 @@
 //! The parts of a package, and the groups of pieces that are none yet.
 
 use super::entries::{lossy, ITEMS};
-use super::{Items, Package, Relationships};
-use crate::names::{is_equivalent, take_apart};
+use super::{Package, Part};
+use crate::names::is_equivalent;
 use crate::Refusal;
 use alloc::string::String;
 use alloc::vec::Vec;
@@ -84,10 +84,7 @@ impl Groups<'_> {
     /// The prefix of the next item.
     fn prefix(&mut self) -> Option<Vec<u8>> {
         let position = self.positions.next()?;
-        let mut name = self.package.field(ITEMS, position, 0);
-        let prefix = take_apart(&name).map(|item| item.prefix.len());
-        name.truncate(prefix.unwrap_or(name.len()));
-        Some(name)
+        Some(self.package.prefix(position))
     }
 }
 
@@ -123,11 +120,7 @@ impl<'a> Iterator for Parts<'a> {
         let package = self.groups.package;
         let is_part = |(name, _): &(Vec<u8>, _)| package.read_part(name, 0, &mut []).is_ok();
         let (name, positions) = self.groups.find(is_part).unwrap_or_default();
-        Some(Part {
-            package,
-            name: lossy(name),
-            positions,
-        })
+        Some(Part::new(package, name, positions))
     }
 
     fn size_hint(&self) -> (usize, Option<usize>) {
@@ -173,99 +166,5 @@ impl fmt::Debug for Unfinished<'_> {
         f.debug_struct("Unfinished")
             .field("positions", &self.groups.positions)
             .finish_non_exhaustive()
-    }
-}
-
-/// A part of a package that [`Package::parts`] came to. As text it is its name.
-///
-/// Its calls are those of [`Package`] with its name. In bytes that no calls
-/// made, where these may be refused, it has no content and no relationships.
-#[derive(Clone, Debug)]
-pub struct Part<'a> {
-    package: &'a Package,
-    name: String,
-    positions: Range<usize>,
-}
-
-impl<'a> Part<'a> {
-    /// The part's name, in the spelling of its first item.
-    #[must_use]
-    pub fn name(&self) -> &str {
-        &self.name
-    }
-
-    /// The length of the content.
-    #[must_use]
-    pub fn len(&self) -> usize {
-        self.package.part_len(&self.name).unwrap_or_default()
-    }
-
-    /// Whether the content has no bytes.
-    #[must_use]
-    pub fn is_empty(&self) -> bool {
-        self.len() == 0
-    }
-
-    /// The whole content.
-    #[must_use]
-    pub fn to_vec(&self) -> Vec<u8> {
-        let content = self.package.read_part_to_vec(&self.name);
-        content.unwrap_or_default()
-    }
-
-    /// A reader of the content.
-    #[cfg(feature = "std")]
-    #[must_use]
-    pub fn reader(&self) -> super::PartReader<'a> {
-        super::PartReader::new(self.package, self.name.as_bytes(), self.len())
-    }
-
-    /// The items that make the part: a whole one, or its pieces.
-    ///
-    /// ```
-    /// use zombirels::package::PackageBuf;
-    /// let mut slide = PackageBuf::start(100)?;
-    /// slide.put_item("/t3", "tiles")?;
-    /// slide.cut_part("/t3", 2)?;
-    /// let part = slide.parts()?.next().unwrap();
-    /// let pieces: Vec<&[u8]> = part.items().map(|item| item.bytes).collect();
-    /// assert_eq!(pieces, [&b"til"[..], b"es"]);
-    /// # Ok::<(), zombirels::Refusal>(())
-    /// ```
-    #[must_use]
-    pub fn items(&self) -> Items<'a> {
-        self.package.items_at(self.positions.clone())
-    }
-
-    /// The media type.
-    ///
-    /// # Errors
-    ///
-    /// [`Refusal::NoMediaType`], or as [`Package::media_type_to_string`].
-    pub fn media_type(&self) -> Result<String, Refusal> {
-        self.package.media_type_to_string(&self.name)
-    }
-
-    /// The relationships from this part.
-    ///
-    /// ```
-    /// use zombirels::package::{Mode, PackageBuf};
-    /// let mut slide = PackageBuf::start(100)?;
-    /// slide.put_item("/t3", "tile")?;
-    /// slide.put_relationship("/T3", "m1", "a:mask", Mode::Internal, "mask")?;
-    /// let part = slide.parts()?.next().unwrap();
-    /// assert_eq!(part.relationships().len(), 1);
-    /// # Ok::<(), zombirels::Refusal>(())
-    /// ```
-    #[must_use]
-    pub fn relationships(&self) -> Relationships<'a> {
-        let relationships = self.package.relationships_of(&self.name);
-        relationships.unwrap_or_else(|_| self.package.no_relationships())
-    }
-}
-
-impl fmt::Display for Part<'_> {
-    fn fmt(&self, f: &mut fmt::Formatter<'_>) -> fmt::Result {
-        f.pad(&self.name)
     }
 }

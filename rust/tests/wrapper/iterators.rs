@@ -63,7 +63,7 @@ fn check_parts(held: &Held) {
             (right.bytes, right.bytes == 0)
         );
         assert_eq!(part.items().len(), right.pieces);
-        let media_type = part.media_type().ok();
+        let media_type = part.media_type();
         assert_eq!(media_type.as_deref().map(str::as_bytes), right.media_type);
         let mut content = vec![0; right.bytes];
         held.ledger
@@ -73,6 +73,13 @@ fn check_parts(held: &Held) {
         let pieces: Vec<&[u8]> = part.items().map(|item| item.bytes).collect();
         assert_eq!(pieces.concat(), content);
         assert_eq!(exact(part.relationships()), links_of(held, right.name));
+        let origin = held.package.type_origin_to_string(right.name);
+        assert_eq!(Ok(part.type_origin()), origin);
+        let named = held.package.part(right.name.to_ascii_uppercase());
+        let named = named.expect("a part");
+        assert_eq!(named.name(), part.name());
+        assert!(named.items().eq(part.items()));
+        assert_eq!(named.into_name().as_bytes(), right.name);
     }
 }
 
@@ -87,6 +94,10 @@ fn check_unfinished(held: &Held) -> usize {
     let lacking = groups.values().filter(|name| !is_part(name));
     let unfinished: Vec<String> = held.package.unfinished().expect("a package").collect();
     assert!(unfinished.iter().map(String::as_bytes).eq(lacking.copied()));
+    for name in &unfinished {
+        let part = held.package.part(name);
+        assert_eq!(part.err(), Some(Refusal::NotHeld));
+    }
     unfinished.len()
 }
 

@@ -35,8 +35,10 @@ fn ask_all(package: &Package) -> Result<usize, Refusal> {
     let parts = exact(package.parts()?);
     assert_eq!(parts.len(), package.totals()?.parts);
     for part in &parts {
-        part.media_type().ok();
-        package.type_origin_to_string(part.name()).ok();
+        let _ = (part.media_type(), part.type_origin());
+        if let Ok(named) = package.part(part.name()) {
+            exact(named.items());
+        }
         assert!(part.to_vec().len() <= package.as_bytes().len());
         exact(part.items());
         exact(part.relationships());
