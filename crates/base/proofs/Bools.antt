@@ -1,8 +1,11 @@
 -- Tests taken apart.
 -- Assumes nothing.
-use mathlib.Core.Path.{_≡_, refl}
+use Prim.Native.Nat.{ℕ}
+use mathlib.Core.Path.{_≡_, refl, sym, _∙_}
 use mathlib.Core.Bool.{Bool, true, false, _&&_, _||_, false≢true, true≢false}
 use mathlib.Core.Logic.{_⊎_, inl, inr}
+use lib.Dec.{eqb}
+use borrow.Author.Tests.{eqb-true, eq-eqb}
 
 pub and-left : (a b : Bool) → (a && b) ≡ true → a ≡ true
 and-left true b e = refl
@@ -15,13 +18,20 @@ and-right false b e = absurd (false≢true e)
 pub and-both : (a b : Bool) → (a && b) ≡ true → (a ≡ true) × (b ≡ true)
 and-both a b e = (and-left a b e, and-right a b e)
 
+pub and-true : (a b : Bool) → a ≡ true → b ≡ true → (a && b) ≡ true
+and-true a b e f = rw (e, f)
+
+-- two numbers that are both as asked, or not both
+pub eqb-both : (a i b j : ℕ) → (eqb a i && eqb b j) ≡ true → (a ≡ i) × (b ≡ j)
+eqb-both a i b j e = (eqb-true a i (and-left (eqb a i) (eqb b j) e), eqb-true b j (and-right (eqb a i) (eqb b j) e))
+
+pub eqb-not-both : (a i b j : ℕ) → (eqb a i && eqb b j) ≡ false → a ≡ i → b ≡ j → ⊥
+eqb-not-both a i b j e f g = true≢false (sym (and-true (eqb a i) (eqb b j) (eq-eqb a i f) (eq-eqb b j g)) ∙ e)
+
 -- one of two fails
 pub and-either : (a b : Bool) → (a && b) ≡ false → (a ≡ false) ⊎ (b ≡ false)
 and-either true b e = inr e
 and-either false b e = inl refl
-
-pub and-true : (a b : Bool) → a ≡ true → b ≡ true → (a && b) ≡ true
-and-true a b e f = rw (e, f)
 
 pub and-false : (b : Bool) → (b && false) ≡ false
 and-false true = refl

@@ -6,7 +6,7 @@ use mathlib.Core.List.{List, [], _∷_, _++_}
 use native.Mathlib.Nat.{add-zero}
 use native.Mathlib.Omega.{arith}
 use lib.ListN.{length, getD, take, drop, length-drop}
-use lib.Seq.{take-all, take-nil, getD-drop}
+use lib.Seq.{take-all, take-nil, drop-at, getD-drop}
 
 -- the part s[i..] of a slice
 pub take-rest : (s : List ℕ) (i : ℕ) → take (length s - i) (drop i s) ≡ drop i s
@@ -31,6 +31,10 @@ drop-take zero n l = let e : n - 0 ≡ n = omega arith in rw e
 drop-take (suc i) zero l = let e : 0 - suc i ≡ 0 = omega arith in rw e
 drop-take (suc i) (suc n) [] = sym (take-nil (suc n - suc i))
 drop-take (suc i) (suc n) (x ∷ l) = let e : suc n - suc i ≡ n - i = omega arith in rw e (drop-take i n l)
+
+-- a beginning, and what follows it
+pub append-rest : (a b s : List ℕ) → a ++ b ≡ s → a ++ drop (length a) s ≡ s
+append-rest a b s e = ap (λ (t : List ℕ). a ++ drop (length a) t) (sym e) ∙ ap (λ (t : List ℕ). a ++ t) (drop-at a b (length a) refl) ∙ e
 
 -- what follows x in x ++ z
 pub getD-seam : (x z : List ℕ) → getD (x ++ z) (length x) 0 ≡ getD z 0 0

@@ -1,13 +1,13 @@
 -- The rows of the items: which item a row is, where a key stands among them, how many there are.
 -- Assumes nothing.
-use Prim.Native.Nat.{ℕ, zero, suc, _+_, _-_, _/_, _≤_, _<_}
+use Prim.Native.Nat.{ℕ, _+_, _-_, _/_, _≤_, _<_}
 use mathlib.Core.Path.{_≡_, refl, ap, sym, _∙_, subst}
 use mathlib.Core.Bool.{Bool, true, false}
 use mathlib.Core.List.{List, [], _∷_, _++_, map}
 use native.Mathlib.Nat.{zero-add}
 use native.Mathlib.Omega.{arith}
 use lib.Dec.{ltb}
-use lib.ListN.{length, getD, length-append, length-map}
+use lib.ListN.{length, getD, length-append, length-map, List·getD-append}
 use lib.Seq.{getD-append-add}
 use borrow.Author.Tests.{ltb-true, ltb-false}
 use Rattle.chars.specs.Folding.{fold}
@@ -15,7 +15,7 @@ use Rattle.model.specs.Sets.{Bytes}
 use Rattle.model.specs.Places.{bound}
 use Rattle.model.specs.Fields.{prefixOf, suffixOf}
 use Rattle.model.specs.Package.{noItem, State, keyOfItem}
-use Rattle.model.proofs.Lists.{each-at}
+use Rattle.model.proofs.Lists.{each-at, getD-map-in}
 use Rattle.store.specs.Layout.{countOf}
 use Rattle.store.specs.Rows.{Row, noRow, rowAt, tagAt, fieldOf}
 use Rattle.store.proofs.Headers.{row-getD}
@@ -29,9 +29,7 @@ use Rattle.contract.proofs.RowCharges.{count-rows}
 use Rattle.contract.proofs.SetRows.{set-first}
 
 getD-front : {E F : Type 0} (f : E → F) (l : List E) (m : List F) (i : ℕ) (d : E) (e : F) → i < length l → getD (map f l ++ m) i e ≡ f (getD l i d)
-getD-front f [] m i d e h = absurd (omega arith)
-getD-front f (x ∷ l) m zero d e h = refl
-getD-front f (x ∷ l) m (suc i) d e h = getD-front f l m i d e (omega arith)
+getD-front f l m i d e h = List·getD-append (map f l) m e i (omega (arith, length-map l f)) ∙ getD-map-in f l i d e h
 
 module _ (b : List ℕ) (S : State) (h : Holds b S) where
   pub items-le : length (S .items) ≤ countOf b

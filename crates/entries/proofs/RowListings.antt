@@ -1,19 +1,13 @@
 -- The texts of an entry in its row, and copied.
 -- Assumes nothing.
-use Prim.Native.Nat.{ℕ, zero, suc, _+_, _≤_, _<_}
-use mathlib.Core.Path.{_≡_, refl, ap, ap₂, sym, _∙_}
-use mathlib.Core.Bool.{true, false, _&&_, cond, true≢false}
+use Prim.Native.Nat.{ℕ, zero, suc, _+_, _<_}
+use mathlib.Core.Path.{_≡_, refl, ap, _∙_}
+use mathlib.Core.Bool.{cond}
 use mathlib.Core.List.{List, [], _∷_, _++_, append-nil}
 use native.Mathlib.Omega.{arith}
 use lib.Dec.{eqb}
-use lib.ListN.{length, getD, drop, length-append}
-use borrow.Author.Tests.{eq-eqb, eqb-true}
-use Rattle.base.specs.Buffer.{splice}
-use Rattle.base.proofs.Bools.{and-left, and-right}
-use Rattle.base.proofs.Parts.{length-splice}
+use lib.ListN.{getD}
 use Rattle.output.specs.Answers.{Text, Answer, filled}
-use Rattle.output.specs.Sends.{Sent}
-use Rattle.output.proofs.Sending.{sent-more, sent-start}
 use Rattle.model.specs.Sets.{Bytes}
 use Rattle.store.specs.Layout.{countOf}
 use Rattle.store.specs.Rows.{Row, rowAt, tagAt, fieldOf}
@@ -21,23 +15,6 @@ use Rattle.store.specs.Packages.{Shape, Sound}
 use Rattle.contract.specs.Rows.{externalTag}
 use Rattle.entries.specs.Listing.{fieldCount}
 use Rattle.entries.specs.RowTexts.{rowTexts, rowField, RowCopied}
-
--- two texts written one behind the other are one
-pub both-written : (out m out' a b : Bytes) → m ≡ splice out 0 a → out' ≡ splice m (length a) b → length a + length b ≤ length out →
-    out' ≡ (a ++ b) ++ drop (length (a ++ b)) out
-both-written out m out' a b em eo l =
-    let size : length m ≡ length out = ap length em ∙ length-splice out 0 a (omega arith) in
-    let first : Sent out 0 a (length a) m = record { next-is = omega arith; fits = λ _. em } in
-    let then : Sent m (length a) b (length a + length b) out' = record { next-is = refl; fits = λ _. eo } in
-    sent-start out out' (a ++ b) (length a + length b) (sent-more out m out' a b 0 (length a) (length a + length b) first size then)
-    (rw length-append l)
-
--- two numbers that are both as asked, or not both
-pub both-met : (a i b j : ℕ) → (eqb a i && eqb b j) ≡ true → (a ≡ i) × (b ≡ j)
-both-met a i b j e = (eqb-true a i (and-left (eqb a i) (eqb b j) e), eqb-true b j (and-right (eqb a i) (eqb b j) e))
-
-pub both-unmet : (a i b j : ℕ) → (eqb a i && eqb b j) ≡ false → a ≡ i → b ≡ j → ⊥
-both-unmet a i b j e f g = true≢false (sym (ap₂ _&&_ (eq-eqb a i f) (eq-eqb b j g)) ∙ e)
 
 -- A ROW'S TEXTS
 -- the field k of the entry is one field of its row, but for an item's name and a relationship's mode

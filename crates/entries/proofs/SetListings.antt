@@ -3,19 +3,16 @@
 use Prim.Native.Nat.{ℕ, zero, suc, _+_, _≤_, _<_}
 use mathlib.Core.Path.{_≡_, refl, ap, ap₂, sym, _∙_}
 use mathlib.Core.Bool.{cond}
-use mathlib.Core.List.{List, [], _∷_, _++_, map, append-nil}
+use mathlib.Core.List.{List, [], _∷_, _++_, map}
 use native.Mathlib.Omega.{arith}
 use lib.Dec.{eqb}
-use lib.ListN.{length, getD, take, drop, take-append-drop, length-map}
-use lib.Seq.{drop-at, getD-append-add}
-use Rattle.names.specs.Items.{itemName}
-use Rattle.names.specs.declared.items.ItemName.{ItemName}
-use Rattle.names.specs.declared.items.ItemName.the-variants.{Named, Refused}
+use lib.ListN.{length, getD, length-map}
+use lib.Seq.{getD-append-add}
 use Rattle.model.specs.Sets.{Bytes, Each}
-use Rattle.model.specs.Fields.{prefixIn, prefixOf}
 use Rattle.model.specs.Places.{bound}
 use Rattle.model.specs.Package.{Item, Default, Override, Relationship, State, relationshipKind}
-use Rattle.model.proofs.Lists.{each-map}
+use Rattle.model.proofs.Lists.{each-map, each-all}
+use Rattle.model.proofs.ItemNames.{prefix-rest}
 use Rattle.model.proofs.Targets.{fielded, mode-le}
 use Rattle.store.specs.Rows.{Row, noRow, rowAt}
 use Rattle.store.proofs.Headers.{row-getD}
@@ -30,20 +27,9 @@ use Rattle.entries.specs.Listing.{itemTexts, defaultTexts, overrideTexts
 use Rattle.entries.specs.RowTexts.{rowTexts}
 
 -- A ROW HAS THE TEXTS of its entry
-split-whole : (a b s : Bytes) → a ++ b ≡ s → a ++ drop (length a) s ≡ s
-split-whole a b s e = ap (λ (t : Bytes). a ++ drop (length a) t) (sym e) ∙ ap (λ (t : Bytes). a ++ t) (drop-at a b (length a) refl) ∙ e
-
-name-whole : (s : Bytes) → prefixOf s ++ drop (length (prefixOf s)) s ≡ s
-unfolding prefixOf
-name-whole s = go (itemName s)
-  where
-    go : (n : ItemName) → prefixIn n s ++ drop (length (prefixIn n s)) s ≡ s
-    go (Named n x) = split-whole (take n s) (drop n s) s (take-append-drop n s)
-    go (Refused k) = split-whole s [] s (append-nil s)
-
 item-texts : (i : Item) → rowTexts 0 (itemRow i) ≡ itemTexts i
 unfolding rowTexts itemRow
-item-texts i = ap (λ (s : Bytes). s ∷ i .bytes ∷ []) (name-whole (i .name))
+item-texts i = ap (λ (s : Bytes). s ∷ i .bytes ∷ []) (prefix-rest (i .name))
 
 default-texts : (d : Default) → rowTexts 1 (defaultRow d) ≡ defaultTexts d
 unfolding rowTexts defaultRow
@@ -62,11 +48,6 @@ relationship-texts : (r : Relationship) → relationshipKind .fields r ≡ 0 →
 unfolding rowTexts relationshipRow
 relationship-texts r e =
     ap (λ (m : ℕ). r .source ∷ r .id ∷ r .type ∷ (m ∷ []) ∷ r .target ∷ []) (mode-told (r .mode) (mode-le (r .mode) (fielded r e .mode)))
-
--- all entries have, if each has
-every : {E : Type 0} (P : E → Type 0) → ((x : E) → P x) → (xs : List E) → Each P xs
-every P h [] = tt
-every P h (x ∷ xs) = (h x, every P h xs)
 
 -- THE ROWS from f to t of b are the entries of the set
 pub record InRows (b : List ℕ) (S : State) (set f t : ℕ) : Type 0 where
@@ -112,11 +93,11 @@ pub in-rows : (b : List ℕ) (S : State) → Holds b S → (set m f t : ℕ) →
     InRows b S set f t
 unfolding listed
 in-rows b S h zero m f t l em ef et =
-    set-in-rows itemRows item-rows itemTexts b S h m f t em ef et (every _ item-texts (S .items)) refl
+    set-in-rows itemRows item-rows itemTexts b S h m f t em ef et (each-all _ item-texts (S .items)) refl
 in-rows b S h (suc zero) m f t l em ef et =
-    set-in-rows defaultRows default-rows defaultTexts b S h m f t em ef et (every _ default-texts (S .defaults)) refl
+    set-in-rows defaultRows default-rows defaultTexts b S h m f t em ef et (each-all _ default-texts (S .defaults)) refl
 in-rows b S h (suc (suc zero)) m f t l em ef et =
-    set-in-rows overrideRows override-rows overrideTexts b S h m f t em ef et (every _ override-texts (S .overrides)) refl
+    set-in-rows overrideRows override-rows overrideTexts b S h m f t em ef et (each-all _ override-texts (S .overrides)) refl
 in-rows b S h (suc (suc (suc zero))) m f t l em ef et =
     set-in-rows relationshipRows relationship-rows relationshipTexts b S h m f t em ef et
     (each-map (λ (r : Relationship). relationshipKind .fields r ≡ 0) _ (S .relationships) relationship-texts (h .good .relationships .fielded)) refl

@@ -3,11 +3,12 @@
 use Prim.Native.Nat.{ℕ, _-_, _≤_}
 use mathlib.Core.Path.{_≡_, refl, ap, sym, _∙_}
 use mathlib.Core.Bool.{Bool, true, false, true≢false}
+use mathlib.Core.List.{[], _++_, append-nil}
 use native.Mathlib.Omega.{arith}
 use lib.Dec.{eqb}
-use lib.ListN.{length, getD, take}
+use lib.ListN.{length, getD, take, drop, take-append-drop}
 use lib.Seq.{take-length, length-take-le}
-use Rattle.base.proofs.Lists.{length-take-le-length}
+use Rattle.base.proofs.Lists.{length-take-le-length, append-rest}
 use Rattle.chars.specs.Bytes.{slash, openBracket}
 use Rattle.chars.specs.Lists.{afterLast}
 use Rattle.chars.proofs.Searches.{last-le}
@@ -95,6 +96,15 @@ prefix-short s = go (itemName s)
     go : (x : ItemName) → length (prefixIn x s) ≤ length s
     go (Named n x) = length-take-le-length n s
     go (Refused k) = omega arith
+
+-- a name is its prefix and what follows it
+pub prefix-rest : (s : Bytes) → prefixOf s ++ drop (length (prefixOf s)) s ≡ s
+unfolding prefixOf
+prefix-rest s = go (itemName s)
+  where
+    go : (x : ItemName) → prefixIn x s ++ drop (length (prefixIn x s)) s ≡ s
+    go (Named n x) = append-rest (take n s) (drop n s) s (take-append-drop n s)
+    go (Refused k) = append-rest s [] s (append-nil s)
 
 -- no refusal number is 0
 pub refused-number : (s : Bytes) (k : ℕ) → itemName s ≡ Refused k → k ≡ 0 → ⊥

@@ -12,6 +12,12 @@ use borrow.Author.Tests.{ltb-true, ltb-false, lt-ltb, le-ltb}
 use Rattle.model.specs.Sets.{any, filter, Each, AllPairs}
 use Rattle.base.proofs.Bools.{or-false-left, or-false-right, not-passing}
 
+-- what stands in a list that was mapped, whatever stands past its end
+pub getD-map-in : {E F : Type 0} (f : E → F) (xs : List E) (n : ℕ) (d : E) (e : F) → n < length xs → getD (map f xs) n e ≡ f (getD xs n d)
+getD-map-in f [] n d e l = absurd (omega arith)
+getD-map-in f (x ∷ xs) zero d e l = refl
+getD-map-in f (x ∷ xs) (suc n) d e l = getD-map-in f xs n d e (omega arith)
+
 module _ {E : Type 0} where
   -- EACH, PAIRS
   pub each-map : (P Q : E → Type 0) (xs : List E) → ((x : E) → P x → Q x) → Each P xs → Each Q xs
@@ -33,6 +39,10 @@ module _ {E : Type 0} where
   pub each-right : (P : E → Type 0) (xs ys : List E) → Each P (xs ++ ys) → Each P ys
   each-right P [] ys a = a
   each-right P (x ∷ xs) ys a = each-right P xs ys (a .1)
+
+  pub each-all : (P : E → Type 0) → ((x : E) → P x) → (xs : List E) → Each P xs
+  each-all P f [] = tt
+  each-all P f (x ∷ xs) = (f x, each-all P f xs)
 
   pub each-at : (P : E → Type 0) (xs : List E) (n : ℕ) (d : E) → n < length xs → Each P xs → P (getD xs n d)
   each-at P [] n d l h = absurd (omega arith)

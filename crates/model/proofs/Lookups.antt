@@ -1,15 +1,17 @@
 -- What is found after an insertion and after a removal; a sorted list is known by what is found in it.
 -- Assumes nothing.
-use Prim.Native.Nat.{ℕ, _+_}
+use Prim.Native.Nat.{ℕ, zero, suc, _+_, _<_}
 use mathlib.Core.Path.{_≡_, refl, ap, ap₂, sym, _∙_, subst}
 use mathlib.Core.Logic.{inl, inr}
 use mathlib.Core.Bool.{Bool, true, false, cond, true≢false}
 use mathlib.Core.List.{List, [], _∷_}
 use mathlib.Core.Option.{none, some, Option·none-ne-some, Option·some-injective}
 use native.Mathlib.Omega.{arith}
+use lib.ListN.{length, getD}
+use Rattle.base.proofs.Bools.{not-passing}
 use Rattle.model.specs.Sets.{Key, before, sameKey, sumOf, lookup, insert, remove, Each, OneOf, Sorted}
-use Rattle.model.proofs.Lists.{each-map}
-use Rattle.model.proofs.KeyOrders.{same-before, before-trans, before-turn, same-key-refl, before-not-same, same-key-trans}
+use Rattle.model.proofs.Lists.{each-map, each-at}
+use Rattle.model.proofs.KeyOrders.{same-before, before-trans, before-turn, same-key-refl, same-key-sym, before-not-same, same-key-trans}
 
 module _ {E : Type 0} (key : E → Key) where
   -- another key is found as before
@@ -141,6 +143,18 @@ module _ {E : Type 0} (key : E → Key) where
       go : (b : Bool) → cond b (some x) (lookup key k xs) ≡ some e → (lookup key k xs ≡ some e → OneOf e xs) → OneOf e (x ∷ xs)
       go true h ih = inl (sym (Option·some-injective x e h))
       go false h ih = inr (ih h)
+
+  -- an entry of a sorted list is found under its own key
+  pub lookup-own : (xs : List E) (n : ℕ) (d : E) → Sorted key xs → n < length xs → lookup key (key (getD xs n d)) xs ≡ some (getD xs n d)
+  unfolding lookup
+  lookup-own [] n d s l = absurd (omega arith)
+  lookup-own (x ∷ xs) zero d s l = rw (same-key-refl (key x))
+  lookup-own (x ∷ xs) (suc n) d s l =
+      let y = getD xs n d in
+      let b = each-at (λ (z : E). before (key x) (key z) ≡ true) xs n d (omega arith) (s .0) in
+      let other : sameKey (key y) (key x) ≡ false =
+      not-passing (sameKey (key y) (key x)) (λ e. true≢false (sym (same-key-sym (key y) (key x) e) ∙ before-not-same (key x) (key y) b)) in
+      rw other (lookup-own xs n d (s .1) (omega arith))
 
   -- what a removal takes away
   pub sum-removed : (f : E → ℕ) (k : Key) (xs : List E) (e : E) → lookup key k xs ≡ some e → sumOf f (remove key k xs) + f e ≡ sumOf f xs

@@ -10,6 +10,7 @@ use lib.Seq.{drop-drop, length-take-le, take-at}
 use Rattle.base.specs.Buffer.{splice}
 use Rattle.base.proofs.Lists.{take-rest}
 use Rattle.base.proofs.Copies.{splice-nil}
+use Rattle.base.proofs.Parts.{length-splice}
 use Rattle.base.proofs.Writes.{write, join}
 use Rattle.output.specs.Sends.{Sent, Fitted}
 
@@ -67,6 +68,16 @@ module _ (o o₁ t : List ℕ) (n : ℕ) (s : Sent o 0 t n o₁) where
 
   pub sent-text : n ≤ length o → take n o₁ ≡ t
   sent-text l = sent-front o o₁ t 0 n s l
+
+-- two texts that were written to the start, one behind the other, are one
+pub sent-both : (o o₁ o₂ a b : List ℕ) → o₁ ≡ splice o 0 a → o₂ ≡ splice o₁ (length a) b → length a + length b ≤ length o
+    → o₂ ≡ (a ++ b) ++ drop (length (a ++ b)) o
+sent-both o o₁ o₂ a b e f l =
+    let size : length o₁ ≡ length o = ap length e ∙ length-splice o 0 a (omega arith) in
+    let first : Sent o 0 a (length a) o₁ = record { next-is = omega arith; fits = λ _. e } in
+    let then : Sent o₁ (length a) b (length a + length b) o₂ = record { next-is = refl; fits = λ _. f } in
+    sent-start o o₂ (a ++ b) (length a + length b) (sent-more o o₁ o₂ a b 0 (length a) (length a + length b) first size then)
+    (rw length-append l)
 
 -- a part of no bytes that was lent stays as it was: out[..0]
 pub append-none : (ys out : List ℕ) → length ys ≡ 0 → ys ++ drop 0 out ≡ out

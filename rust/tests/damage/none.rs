@@ -39,8 +39,7 @@ fn is_no_package(buffer: &mut [u8]) {
     assert_eq!(package.type_origin(b"no name", &mut []), Err(one));
     assert_eq!(package.write_types(&mut out), Err(one));
     assert_eq!(package.write_relationships(b"no", &mut out), Err(one));
-    let mode = Mode::Internal;
-    let put = package.put_relationship(b"/", b"r", b"a:", mode, b"b");
+    let put = package.put_relationship(b"/", b"r", b"a:", Mode::Internal, b"b");
     assert_eq!(put, Err(one));
     assert_eq!(package.drop_relationship(b"/", b"r"), Err(one));
     let resolved = package.resolve_relationship(b"/", b"r", b"a:", &mut out);

@@ -21,11 +21,8 @@ fn counts(package: &Package) -> [usize; 4] {
         .map(|set| entry(package, set, 0, 0, 300).map_or(0, |(_, entries)| entries))
 }
 
-#[test]
-fn puts_and_drops() {
-    let mut buffer = buffer(1000);
-    let package = &mut Package::start(&mut buffer, 1000).expect("room");
-    assert_eq!(counts(package), [0; 4]);
+/// Five entries in each set, put in another order than that of their keys.
+fn put_five(package: &mut Package) {
     for i in [3, 1, 4, 0, 2] {
         let text = format!("/T{i}").into_bytes();
         package.put_item(&text, &text).expect("room");
@@ -34,6 +31,14 @@ fn puts_and_drops() {
         let put = package.put_relationship(b"/", &text[1..], b"a:", Mode::Internal, b"b");
         put.expect("room");
     }
+}
+
+#[test]
+fn puts_and_drops() {
+    let mut buffer = buffer(1000);
+    let package = &mut Package::start(&mut buffer, 1000).expect("room");
+    assert_eq!(counts(package), [0; 4]);
+    put_five(package);
     let all = ["/T0 /T1 /T2 /T3 /T4", "T0 T1 T2 T3 T4"];
     assert_eq!(keys(package), [all[0], all[1], all[0], all[1]]);
     assert_eq!(counts(package), [5; 4]);

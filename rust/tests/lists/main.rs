@@ -1,8 +1,6 @@
 //! Random lists of calls on one package: the archive beside the ledger of the
-//! reference. Compared are every answer, every output byte, every viewed byte.
-//!
-//! Entries by their positions are compared as well, all of them at the end of
-//! each list.
+//! reference. Compared are every answer, every output byte, every viewed byte,
+//! and at the end of each list all entries by their positions.
 //!
 //! There are nine kinds of lists, 27,000 lists in all. ZOMBIRELS_LISTS sets how
 //! many each kind gets. From 1,000 on it is checked that each kind meets the
