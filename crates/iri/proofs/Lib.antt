@@ -3,3 +3,4 @@ pub mod DotRules
 pub mod DotTurns
 pub mod Merging
 pub mod Transforms
+pub mod FoldedPaths

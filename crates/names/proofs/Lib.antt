@@ -11,3 +11,4 @@ pub mod Lengths
 pub mod FoldedNames
 pub mod MediaTypes
 pub mod PlainBytes
+pub mod FieldBytes
