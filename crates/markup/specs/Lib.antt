@@ -1,0 +1,14 @@
+pub mod Marks
+pub mod Tags
+pub mod Elements
+pub mod Entries
+pub mod Streams
+pub mod Walks
+pub mod Repeats
+pub mod EntryPlaces
+pub mod StreamPlaces
+pub mod PiecePlaces
+pub mod FormPlaces
+pub mod FieldPlaces
+pub mod Examples
+pub mod Depth
