@@ -9,7 +9,8 @@ use Rattle.output.specs.Answers.{Answer}
 use Rattle.model.specs.Sets.{Key, held, lookup}
 use Rattle.model.specs.Fields.{when, first}
 use Rattle.model.specs.Package.{State}
-use Rattle.model.specs.Calls.{Change, Changes, changeRefusal, changeMade, putRefusal, dropRefusal, putIn, takenOut}
+use Rattle.model.specs.Puts.{putRefusal, dropRefusal, putIn, takenOut}
+use Rattle.model.specs.Calls.{Change, Changes, changeRefusal, changeMade}
 use Rattle.model.proofs.Refusals.{first-append, first-met, first-unmet, first-one, first-front, first-past}
 use Rattle.contract.specs.Rows.{setKey, RowKind}
 use Rattle.contract.specs.Answers.{ofDid}

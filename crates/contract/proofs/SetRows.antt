@@ -14,7 +14,7 @@ use Rattle.chars.specs.declared.folding.Order.the-variants.{Equal, Greater}
 use Rattle.model.specs.Sets.{Bytes, Key, keyOrder, thenBy, isLess, isEqual, before, sameKey, lookup, insert, remove, Each}
 use Rattle.model.specs.Places.{firstWhere, bound}
 use Rattle.model.specs.Package.{State}
-use Rattle.model.specs.Calls.{putIn, takenOut}
+use Rattle.model.specs.Puts.{putIn, takenOut}
 use Rattle.model.proofs.Lists.{each-map, each-append, none-any}
 use Rattle.model.proofs.Walks.{first-append-none}
 use Rattle.store.specs.Rows.{Row}

@@ -13,7 +13,8 @@ use Rattle.output.specs.Answers.{Answer}
 use Rattle.model.specs.Sets.{Key, held, lookup, insert, remove}
 use Rattle.model.specs.Fields.{when, first}
 use Rattle.model.specs.Package.{State, charge}
-use Rattle.model.specs.Calls.{Change, done, refused, changed, noRoom, change, changeRefusal, changeMade, putIn, takenOut}
+use Rattle.model.specs.Puts.{noRoom, putIn, takenOut}
+use Rattle.model.specs.Calls.{Change, done, refused, changed, change, changeRefusal, changeMade}
 use Rattle.store.specs.Layout.{countOf, usedOf, slotCount}
 use Rattle.store.specs.Rows.{Row, rowSize, rowsOf}
 use Rattle.store.specs.Packages.{Became}

@@ -14,7 +14,8 @@ use Rattle.model.specs.Sets.{Bytes, remove}
 use Rattle.model.specs.Places.{place, spot}
 use Rattle.model.specs.Fields.{first, prefixOf, suffixOf, itemField}
 use Rattle.model.specs.Package.{State, Item, itemKey, keyOfItem, itemAt}
-use Rattle.model.specs.Calls.{Changes, PutItem, DropItem, done, refused, changed, change, withItems, putItemRefusal, dropItemRefusal, misfits}
+use Rattle.model.specs.Puts.{withItems, putItemRefusal, dropItemRefusal, misfits}
+use Rattle.model.specs.Calls.{Changes, PutItem, DropItem, done, refused, changed, change}
 use Rattle.names.proofs.Lengths.{part-name-size}
 use Rattle.output.specs.Answers.{Answer}
 use Rattle.model.proofs.Numbers.{numbered}

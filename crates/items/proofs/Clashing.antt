@@ -17,7 +17,7 @@ use Rattle.model.specs.Sets.{Bytes, before, held, lookup, any}
 use Rattle.model.specs.Places.{bound, place}
 use Rattle.model.specs.Fields.{first, prefixOf, suffixOf}
 use Rattle.model.specs.Package.{noItem, State, Item, itemKey, keyOfItem, group, disagrees, grows}
-use Rattle.model.specs.Calls.{misfits}
+use Rattle.model.specs.Puts.{misfits}
 use Rattle.model.proofs.Numbers.{numbered, zero-numbered}
 use Rattle.model.proofs.Lists.{any-map, any-same}
 use Rattle.model.proofs.Walks.{first-le}

@@ -12,7 +12,8 @@ use Rattle.chars.specs.FoldedNames.{common}
 use Rattle.model.specs.Sets.{Bytes, held, lookup, any}
 use Rattle.model.specs.Fields.{first}
 use Rattle.model.specs.Package.{State, itemKey, keyOfItem, grows}
-use Rattle.model.specs.Calls.{Numbered, misfits}
+use Rattle.model.specs.Puts.{misfits}
+use Rattle.model.specs.Calls.{Numbered}
 use Rattle.store.specs.Layout.{countOf}
 use Rattle.store.specs.Rows.{Row, rowAt, tagAt, rowsOf, fieldOf}
 use Rattle.store.specs.Packages.{Sound}

@@ -6,7 +6,7 @@ use mathlib.Core.Option.{some}
 use native.Mathlib.Omega.{arith}
 use Rattle.model.specs.Sets.{Key, lookup, insert, remove}
 use Rattle.model.specs.Package.{State, Kind, charge}
-use Rattle.model.specs.Calls.{putIn, takenOut}
+use Rattle.model.specs.Puts.{putIn, takenOut}
 use Rattle.model.proofs.Sets.{sum-insert, sum-remove}
 use Rattle.model.proofs.Lookups.{sum-removed}
 use Rattle.model.proofs.KindLaws.{Lawful}

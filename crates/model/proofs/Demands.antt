@@ -13,7 +13,8 @@ use Rattle.output.specs.Answers.{Answer, answer}
 use Rattle.model.specs.Sets.{Bytes, sameKey, held, any, filter, sumOf, lookup}
 use Rattle.model.specs.Fields.{when, first, suffixOf, last, itemField}
 use Rattle.model.specs.Package.{Item, State, itemKey, keyOfItem, charge, group, itemAt, sameLast}
-use Rattle.model.specs.Calls.{Find, View, Look, PutItem, done, refused, pick, putItemRefusal, askedRefusal, changeRefusal, changeMade, change, look}
+use Rattle.model.specs.Puts.{putItemRefusal}
+use Rattle.model.specs.Calls.{Find, View, Look, PutItem, done, refused, pick, askedRefusal, changeRefusal, changeMade, change, look}
 use Rattle.model.specs.Demand.{EveryList, TotalsAreSums, PutsAreFound, PutsKeepOthers, FirstPutsFit, DropsUndoPuts}
 use Rattle.model.proofs.Lookups.{lookup-insert-other}
 use Rattle.model.proofs.Refusals.{all-none, none-all, changed-done, changed-accepted}

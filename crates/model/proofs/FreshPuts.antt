@@ -19,7 +19,8 @@ use Rattle.model.specs.Sets.{Bytes, Key, before, sameKey, any, filter, l
 use Rattle.model.specs.Fields.{first, prefixOf, suffixOf, whole, overrideFields}
 use Rattle.model.specs.Package.{Item, Default, Override, State, itemKind, defaultKind, overrideKind, itemKey, nameKey, keyOfItem}
 use Rattle.model.specs.Package.{keyOfDefault, keyOfOverride, rank, group, isPart, content, disagrees, extensionOf, mediaTypeOf}
-use Rattle.model.specs.Calls.{PutItem, Print, ReadPart, MediaType, printed, changed, changeMade, change, putRefusal, putIn, misfits, putItemRefusal, putDefaultRefusal, putOverrideRefusal}
+use Rattle.model.specs.Puts.{putRefusal, putIn, misfits, putItemRefusal, putDefaultRefusal, putOverrideRefusal}
+use Rattle.model.specs.Calls.{PutItem, Print, ReadPart, MediaType, printed, changed, changeMade, change}
 use Rattle.model.specs.Demand.{OverridesAnswer, DefaultsAnswer, WholeItemsAreParts}
 use Rattle.base.proofs.Bools.{not-passing}
 use Rattle.model.proofs.Lists.{each-both, any-filter-none, filter-none}

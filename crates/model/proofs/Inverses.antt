@@ -9,10 +9,10 @@ use Rattle.output.specs.Answers.{Answer}
 use Rattle.model.specs.Sets.{held, lookup, insert, remove, Each}
 use Rattle.model.specs.Fields.{when, suffixOf, last, extensionField, partField, sourceField, idField, defaultFields, overrideFields, relationshipFields}
 use Rattle.model.specs.Package.{Item, Default, Override, Relationship, State, itemAt, sameLast, Kind, itemKind, defaultKind, overrideKind, relationshipKind, keyOfItem}
-use Rattle.model.specs.Calls.{Change, PutItem, DropItem, PutDefault, DropDefault, PutOverride, DropOverride, PutRelationship}
-use Rattle.model.specs.Calls.{DropRelationship, JoinPart, done, changed, change, changeRefusal, changeMade, putRefusal, dropRefusal, putIn}
-use Rattle.model.specs.Calls.{takenOut, misfits, putItemRefusal, putDefaultRefusal, putOverrideRefusal, putRelationshipRefusal}
-use Rattle.model.specs.Calls.{dropItemRefusal, dropDefaultRefusal, dropOverrideRefusal, dropRelationshipRefusal}
+use Rattle.model.specs.Puts.{putRefusal, dropRefusal, putIn, takenOut, misfits, putItemRefusal, putDefaultRefusal, putOverrideRefusal}
+use Rattle.model.specs.Puts.{putRelationshipRefusal, dropItemRefusal, dropDefaultRefusal, dropOverrideRefusal, dropRelationshipRefusal}
+use Rattle.model.specs.Calls.{Change, PutItem, DropItem, PutDefault, DropDefault, PutOverride, DropOverride, PutRelationship, DropRelationship}
+use Rattle.model.specs.Calls.{JoinPart, done, changed, change, changeRefusal, changeMade}
 use Rattle.model.specs.Demand.{dropOf, IsPut}
 use Rattle.model.proofs.Lists.{each-append}
 use Rattle.model.proofs.Sets.{remove-insert}

@@ -42,3 +42,12 @@ pub mod OriginDemands
 pub mod Neighbours
 pub mod Slashes
 pub mod FreshPuts
+pub mod EntryLists
+pub mod ReadingDemands
+pub mod WrittenValues
+pub mod WrittenLines
+pub mod WrittenTexts
+pub mod EntryPuts
+pub mod TypesReadBack
+pub mod RelationshipsReadBack
+pub mod FieldCuts

@@ -23,10 +23,11 @@ use Rattle.model.specs.Fields.{idField, packageField, targetField, defau
 use Rattle.model.specs.Package.{Item, Default, Override, Relationship, State, Kind, itemKind, defaultKind, overrideKind}
 use Rattle.model.specs.Package.{relationshipKind, itemKey, nameKey, relationshipKey, keyOfItem, group, isPart, disagrees, grows, itemAt}
 use Rattle.model.specs.Cutting.{isWhole, cutMade, overfull, cutRefusal, joinRefusal}
-use Rattle.model.specs.Calls.{Change, PutItem, DropItem, PutDefault, DropDefault, PutOverride, DropOverride, PutRelationship}
-use Rattle.model.specs.Calls.{DropRelationship, JoinPart, Numbered, noRoom, putRefusal, dropRefusal, misfits, clash, changeRefusal}
-use Rattle.model.specs.Calls.{askedRefusal, putItemRefusal, putDefaultRefusal, putOverrideRefusal, putRelationshipRefusal}
-use Rattle.model.specs.Calls.{dropItemRefusal, dropDefaultRefusal, dropOverrideRefusal, dropRelationshipRefusal}
+use Rattle.model.specs.Puts.{noRoom, putRefusal, dropRefusal, misfits, clash, putItemRefusal, putDefaultRefusal, putOverrideRefusal}
+use Rattle.model.specs.Puts.{putRelationshipRefusal, dropItemRefusal, dropDefaultRefusal, dropOverrideRefusal, dropRelationshipRefusal}
+use Rattle.model.specs.Reading.{Entered, ADefault, AnOverride, ARelationship, entryRefusal, entryMade, entriesRefusal}
+use Rattle.model.specs.Calls.{Change, PutItem, DropItem, PutDefault, DropDefault, PutOverride, DropOverride, PutRelationship, DropRelationship}
+use Rattle.model.specs.Calls.{JoinPart, Numbered, changeRefusal, askedRefusal}
 use Rattle.model.proofs.Lists.{each-append}
 
 pub numbered : (n : ℕ) → 2 ≤ n → n ≤ 18 → Numbered n
@@ -192,6 +193,18 @@ join-numbered S s =
         (when-numbered (isWhole (group s (S .items))) 18 (omega arith) (omega arith), tt),
       ),
     )
+
+-- the entries of a stream
+entry-numbered : (S : State) (e : Entered) → Numbered (entryRefusal S e)
+unfolding putDefaultRefusal putOverrideRefusal putRelationshipRefusal
+entry-numbered S (ADefault d) = put-numbered defaultKind S d [] (default-numbered d) tt
+entry-numbered S (AnOverride o) = put-numbered overrideKind S o [] (override-numbered o) tt
+entry-numbered S (ARelationship r) = put-numbered relationshipKind S r [] (relationship-numbered r) tt
+
+pub entries-numbered : (S : State) (es : List Entered) → Numbered (entriesRefusal S es)
+unfolding entriesRefusal
+entries-numbered S [] = zero-numbered
+entries-numbered S (e ∷ es) = all-numbered _ (entry-numbered S e, (entries-numbered (entryMade S e) es, tt))
 
 pub change-numbered : (S : State) (c : Change) → Numbered (changeRefusal S c)
 unfolding putItemRefusal dropItemRefusal putDefaultRefusal dropDefaultRefusal putOverrideRefusal dropOverrideRefusal

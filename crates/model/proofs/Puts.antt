@@ -11,7 +11,7 @@ use lib.ListN.{length}
 use Rattle.model.specs.Sets.{Bytes, held, lookup, insert, Each}
 use Rattle.model.specs.Fields.{when, first, itemField}
 use Rattle.model.specs.Package.{State, Kind, itemKind, itemLimit, charge}
-use Rattle.model.specs.Calls.{noRoom, putRefusal, misfits, clash, putItemRefusal}
+use Rattle.model.specs.Puts.{noRoom, putRefusal, misfits, clash, putItemRefusal}
 use Rattle.model.proofs.Lists.{each-left, each-right}
 use Rattle.model.proofs.Sets.{Absent, absent, lookup-insert}
 use Rattle.model.proofs.Refusals.{first-append, all-none, unmet, room-count, room-charge}

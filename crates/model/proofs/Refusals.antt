@@ -12,7 +12,8 @@ use Rattle.model.specs.Sets.{Each}
 use Rattle.model.specs.Fields.{when, first}
 use Rattle.model.specs.Good.{Good}
 use Rattle.model.specs.Package.{State, charge}
-use Rattle.model.specs.Calls.{changed, noRoom, pick, done, refused}
+use Rattle.model.specs.Puts.{noRoom}
+use Rattle.model.specs.Calls.{changed, pick, done, refused}
 use Rattle.base.proofs.Bools.{or-false-left, or-false-right}
 
 pub all-none : (ns : List ℕ) → first ns ≡ 0 → Each (λ (n : ℕ). n ≡ 0) ns

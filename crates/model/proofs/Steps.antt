@@ -13,15 +13,17 @@ use Rattle.model.specs.Sets.{Bytes, Key, sameKey, sumOf, insert, remove,
 use Rattle.model.specs.Fields.{prefixOf, suffixOf}
 use Rattle.model.specs.Package.{Item, State, Kind, itemKind, defaultKind, overrideKind, relationshipKind, empty, charge, group, disagrees, grows, itemKey, nameKey, relationshipKey, keyOfItem}
 use Rattle.model.specs.Cutting.{cutMade, cutRefusal}
-use Rattle.model.specs.Calls.{Call, Start, Looks, Changes, CutPart, TypeOrigin, Prints, capacityLimit, overhead, startRefusal, cut, step, after, Change}
-use Rattle.model.specs.Calls.{PutItem, DropItem, PutDefault, DropDefault, PutOverride, DropOverride, PutRelationship}
-use Rattle.model.specs.Calls.{DropRelationship, JoinPart, putRefusal, putIn, takenOut, misfits, changeRefusal, changeMade, change}
-use Rattle.model.specs.Calls.{putItemRefusal, putDefaultRefusal, putOverrideRefusal, putRelationshipRefusal}
+use Rattle.model.specs.Puts.{putRefusal, putIn, takenOut, misfits, putItemRefusal, putDefaultRefusal, putOverrideRefusal}
+use Rattle.model.specs.Puts.{putRelationshipRefusal}
+use Rattle.model.specs.Reading.{Entered, ADefault, AnOverride, ARelationship, entryRefusal, entryMade, entriesRefusal, entriesMade}
+use Rattle.model.specs.Calls.{Call, Start, Looks, Changes, CutPart, TypeOrigin, Prints, capacityLimit, overhead, startRefusal, cut, step, after}
+use Rattle.model.specs.Calls.{Change, PutItem, DropItem, PutDefault, DropDefault, PutOverride, DropOverride, PutRelationship, DropRelationship}
+use Rattle.model.specs.Calls.{JoinPart, changeRefusal, changeMade, change}
 use Rattle.model.specs.Good.{GoodSet, Beside, Good}
 use Rattle.base.proofs.Bools.{or-false-left}
 use Rattle.model.proofs.Lists.{each-map, each-both, any-none, any-filter-none}
 use Rattle.model.proofs.Sets.{Absent, each-insert, pairs-insert, sorted-insert, each-remove, pairs-remove, sorted-remove, length-insert, length-remove}
-use Rattle.model.proofs.Refusals.{unmet, picked, changed-good}
+use Rattle.model.proofs.Refusals.{all-none, unmet, picked, changed-good}
 use Rattle.model.proofs.Items.{beside-new, beside-comm}
 use Rattle.model.proofs.KindLaws.{Lawful, item-lawful, default-lawful, override-lawful, relationship-lawful}
 use Rattle.model.proofs.Charges.{charge-put, charge-drop-le}
@@ -111,6 +113,20 @@ module _ (S : State) (new : Item) (h : putRefusal itemKind S new (misfits (new .
   put-beside b =
       pairs-insert keyOfItem Beside new (S .items) new-beside
       (each-map (Beside new) (λ (i : Item). Beside i new) (S .items) (λ i b. beside-comm new i b) new-beside) b
+
+-- ENTRIES OF A STREAM, put in one after the other
+entry-good : (S : State) (e : Entered) → Good S → entryRefusal S e ≡ 0 → Good (entryMade S e)
+unfolding putDefaultRefusal putOverrideRefusal putRelationshipRefusal
+entry-good S (ADefault d) g h = put-good defaultKind default-lawful S g d [] h (g .beside)
+entry-good S (AnOverride o) g h = put-good overrideKind override-lawful S g o [] h (g .beside)
+entry-good S (ARelationship r) g h = put-good relationshipKind relationship-lawful S g r [] h (g .beside)
+
+pub entries-good : (S : State) (es : List Entered) → Good S → entriesRefusal S es ≡ 0 → Good (entriesMade S es)
+unfolding entriesRefusal entriesMade
+entries-good S [] g h = g
+entries-good S (e ∷ es) g h =
+    let z = all-none _ h in
+    entries-good (entryMade S e) es (entry-good S e g (z .0)) (z .1 .0)
 
 -- EVERY CHANGE
 pub made-good : (S : State) (c : Change) → Good S → changeRefusal S c ≡ 0 → Good (changeMade S c)

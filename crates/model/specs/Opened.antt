@@ -16,16 +16,18 @@ use Rattle.iri.specs.References.{firstSegment, rule, turn, turns, removeDotSegm
 use Rattle.targets.specs.Targets.{sourceRefusal, internal, resolvePath, internalRefusal, targetRefusal, resolveTarget}
 use Rattle.pack.specs.Pack.{unfragmented, escape, escaped, packIri, partOrRoot, compose, slashed, lowTriplet, decoded, packageOf, unfragmentedIri, packForm, resolvePack}
 use Rattle.targets.specs.Relationships.{relationshipsOf, relationshipsPart, sourceOf, sourcePart}
+use Rattle.markup.specs.Examples.{everything as everyStream}
 use Rattle.model.specs.Sets.{thenBy, keyOrder, any, filter, sumOf, lookup, insert, remove}
 use Rattle.model.specs.Places.{firstWhere}
 use Rattle.model.specs.Fields.{first, prefixOf, suffixOf, itemField, defaultFields, overrideFields, relationshipFields}
 use Rattle.model.specs.Package.{charge, group, completeFrom, isPart, content, spelling, leaders, parts, itemAt, mediaTypeOf}
 use Rattle.model.specs.Texts.{quoted, typesText, relationshipsText}
+use Rattle.model.specs.Reading.{typesSaid, relationshipsSaid, entriesRefusal, entriesMade, readTypesRefusal, readRelationshipsRefusal}
 use Rattle.model.specs.Cutting.{isWhole, piecesFrom, pieces, withAll, cutRefusal, joinRefusal}
 use Rattle.model.specs.TypeOrigin.{originOf, keyed, typeOrigin}
-use Rattle.model.specs.Calls.{startRefusal, clash, putItemRefusal, dropItemRefusal, putDefaultRefusal, dropDefaultRefusal}
-use Rattle.model.specs.Calls.{putOverrideRefusal, dropOverrideRefusal, putRelationshipRefusal, dropRelationshipRefusal, change, cut}
-use Rattle.model.specs.Calls.{askedRefusal, look, resolved, printed, answers, after}
+use Rattle.model.specs.Puts.{clash, putItemRefusal, dropItemRefusal, putDefaultRefusal, dropDefaultRefusal, putOverrideRefusal}
+use Rattle.model.specs.Puts.{dropOverrideRefusal, putRelationshipRefusal, dropRelationshipRefusal}
+use Rattle.model.specs.Calls.{startRefusal, change, cut, askedRefusal, look, resolved, printed, answers, after}
 use Rattle.output.specs.Answers.{filled}
 use Rattle.model.specs.Sheet.{withoutEmptyEnd, lineRead, listing, shown, sheet}
 
@@ -42,5 +44,5 @@ unfolding digit letter hexDigit unreserved segmentByte continuation member same 
     relationshipsText startRefusal clash putItemRefusal dropItemRefusal putDefaultRefusal dropDefaultRefusal putOverrideRefusal
     isWhole piecesFrom pieces withAll cutRefusal joinRefusal dropOverrideRefusal putRelationshipRefusal dropRelationshipRefusal
     change cut originOf keyed typeOrigin askedRefusal look resolved printed filled answers after withoutEmptyEnd
-    lineRead listing shown sheet
+    lineRead listing shown sheet everyStream typesSaid relationshipsSaid entriesRefusal entriesMade readTypesRefusal readRelationshipsRefusal
 everything = tt

@@ -15,7 +15,8 @@ use Rattle.targets.specs.Targets.{sourceRefusal, targetRefusal, targetRefusalFr
 use Rattle.model.specs.Sets.{Bytes}
 use Rattle.model.specs.Fields.{when, first, sourceField, idField, relationshipTypeField, modeField, targetField, relationshipFields}
 use Rattle.model.specs.Package.{relationshipKey}
-use Rattle.model.specs.Calls.{PutRelationship, DropRelationship, putRelationshipRefusal, dropRelationshipRefusal}
+use Rattle.model.specs.Puts.{putRelationshipRefusal, dropRelationshipRefusal}
+use Rattle.model.specs.Calls.{PutRelationship, DropRelationship}
 use Rattle.model.proofs.Refusals.{first-met, first-unmet, first-one, first-front, first-past, all-none, unmet}
 use Rattle.contract.specs.Rows.{relationshipRows}
 use Rattle.contract.proofs.FieldSizes.{source-size}

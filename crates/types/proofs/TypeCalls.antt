@@ -13,7 +13,8 @@ use Rattle.names.specs.Types.{extension}
 use Rattle.model.specs.Sets.{Bytes}
 use Rattle.model.specs.Fields.{defaultFields, overrideFields, extensionField, partField}
 use Rattle.model.specs.Package.{Default, Override, nameKey}
-use Rattle.model.specs.Calls.{PutDefault, DropDefault, PutOverride, DropOverride, putDefaultRefusal, dropDefaultRefusal, putOverrideRefusal, dropOverrideRefusal}
+use Rattle.model.specs.Puts.{putDefaultRefusal, dropDefaultRefusal, putOverrideRefusal, dropOverrideRefusal}
+use Rattle.model.specs.Calls.{PutDefault, DropDefault, PutOverride, DropOverride}
 use Rattle.contract.specs.Rows.{defaultRows, overrideRows}
 use Rattle.names.proofs.Lengths.{part-name-size, extension-size}
 use Rattle.model.proofs.Refusals.{all-none, unmet}
