@@ -1,5 +1,7 @@
 //! Examples with their answers, for the tests of both implementations.
 
+pub mod streams;
+
 /// The base of the examples in RFC 3986 5.4.
 pub const RFC_3986_BASE: &str = "http://a/b/c/d;p?q";
 

@@ -4,6 +4,7 @@ mod entries;
 mod group;
 mod pieces;
 mod relationships;
+mod streams;
 mod types;
 
 use crate::names::{fold, is_derivable, is_part_name, is_reserved, take_apart, ItemName};

@@ -8,9 +8,11 @@ pub mod iri;
 pub mod ledger;
 pub mod names;
 pub mod pack;
+pub mod random_streams;
 pub mod relationships;
 pub mod script;
 pub mod sheet;
+pub mod streams;
 mod xml;
 
 /// Why a call is refused. Refusal 1 (no package) has no case: the ledger
@@ -51,6 +53,10 @@ pub enum Refusal {
     BadPieceCount,
     /// 18: not whole, to be cut, or not in pieces, to be joined.
     WrongForm,
+    /// 19: the stream isn't accepted.
+    MalformedStream,
+    /// 20: a start tag of depth 17 comes before anything malformed.
+    TooDeep,
 }
 
 impl Refusal {
@@ -74,6 +80,8 @@ impl Refusal {
             Refusal::UnreadableLine => 16,
             Refusal::BadPieceCount => 17,
             Refusal::WrongForm => 18,
+            Refusal::MalformedStream => 19,
+            Refusal::TooDeep => 20,
         }
     }
 

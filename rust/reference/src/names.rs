@@ -9,6 +9,8 @@ pub use media_types::is_media_type;
 
 /// The longest part name in bytes.
 const NAME_MAX: usize = 255;
+/// The longest id in bytes.
+const ID_MAX: usize = 63;
 
 /// What a byte can begin in a segment.
 #[derive(Clone, Copy)]
@@ -272,15 +274,21 @@ pub fn is_extension(text: &[u8]) -> bool {
 
 /// Whether `text` is the id of a relationship.
 pub fn is_id(text: &[u8]) -> bool {
+    text.len() <= ID_MAX && is_made_like_id(text)
+}
+
+/// Whether `text` is an id but for its length, which may be any.
+pub(crate) fn is_made_like_id(text: &[u8]) -> bool {
+    let is_tail = |b: &u8| b.is_ascii_alphanumeric() || matches!(b, b'.' | b'_' | b'-');
     match text {
-        [first, rest @ ..] if rest.len() < 63 => {
-            (first.is_ascii_alphabetic() || *first == b'_')
-                && rest
-                    .iter()
-                    .all(|b| b.is_ascii_alphanumeric() || matches!(b, b'.' | b'_' | b'-'))
-        }
-        _ => false,
+        [first, rest @ ..] => is_id_start(*first) && rest.iter().all(is_tail),
+        [] => false,
     }
+}
+
+/// Whether an id can begin with `byte`.
+pub(crate) fn is_id_start(byte: u8) -> bool {
+    byte.is_ascii_alphabetic() || byte == b'_'
 }
 
 #[cfg(test)]
