@@ -5,9 +5,11 @@ use crate::entries::Entered;
 use crate::entries::Kind;
 use crate::pieces::entry_at;
 ghost use mathlib.Core.Path.{_≡_};
-ghost use Prim.Native.Nat.{_≤_};
+ghost use Prim.Native.Nat.{_-_, _≤_};
 ghost use lib.ListN.{length};
-ghost use Rattle.markup.specs.EntryPlaces.{fieldSize};
+ghost use Rattle.base.specs.Buffer.{part};
+ghost use Rattle.markup.specs.Walks.{Reached};
+ghost use Rattle.markup.specs.EntryPlaces.{fieldSize, Decoded};
 ghost use Rattle.markup.specs.FieldPlaces.{TypedAt, RelatedAt};
 
 // A Default's extension or an Override's part name, and the media type, by their lengths.
@@ -31,6 +33,14 @@ pub enum RelatedFields {
     NotRelated,
 }
 
+// The first bytes that the value from `from` to `to` means; how many these are.
+fn field(s: &[u8], from: usize, to: usize, out: &mut [u8; FIELD_SIZE]) -> usize
+    requires { ⌜ Reached (now s) from to × (length (now out) ≡ fieldSize) ⌝ }
+    ensures { λ r. ⌜ Decoded (part from (to - from) (now (s .entry))) (now (out .exit)) r ⌝ }
+{
+    decode(&s[from..to], out)
+}
+
 // The fields of the Default or Override whose tag's name begins at `at`.
 pub fn typed_fields(
     s: &[u8],
@@ -50,8 +60,8 @@ pub fn typed_fields(
             media_end: end,
         } => TypedFields::Typing {
             default,
-            key: decode(&s[from..to], key),
-            media: decode(&s[start..end], media),
+            key: field(s, from, to, key),
+            media: field(s, start, end, media),
         },
         Entered::Related {
             id: _,
@@ -87,10 +97,10 @@ pub fn related_fields(
             target: from,
             target_end: to,
         } => RelatedFields::Relating {
-            id: decode(&s[id_from..id_end], id),
-            iri: decode(&s[iri_from..iri_end], iri),
+            id: field(s, id_from, id_end, id),
+            iri: field(s, iri_from, iri_end, iri),
             mode,
-            target: decode(&s[from..to], target),
+            target: field(s, from, to, target),
         },
         Entered::Typed {
             default: _,

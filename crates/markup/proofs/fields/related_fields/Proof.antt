@@ -1,59 +1,33 @@
-use native.Mathlib.Omega.{arith}
 use borrow.Author.Needs.{needs}
 use Rattle.markup.proofs.FieldTexts.{entry-within, related-is, related-none, related-other}
 use Rattle.markup.proofs.fields.related_fields.Statement.{statement}
 use Rattle.markup.proofs.fields.related_fields.Tie as tie
 
-sub-decode : tie.Need-sub-decode
-sub-decode c = entry-within (c .before .before .before .entry-at .ensures) (c .before .id-from .given .1) .0 .0
+field-requires : tie.Need-field-requires
+field-requires c κs =
+    let at-id-from = c .before .before in
+    let at-entry-at = at-id-from .before .before in
+    (entry-within (at-entry-at .entry-at .ensures) (at-id-from .id-from .given .1) .0, at-entry-at .before .before .pre .1)
 
-part-decode-start : tie.Need-part-decode-start
-part-decode-start c = let w = entry-within (c .before .before .before .entry-at .ensures) (c .before .id-from .given .1) in omega arith
-
-part-decode-end : tie.Need-part-decode-end
-part-decode-end c = let w = entry-within (c .before .before .before .entry-at .ensures) (c .before .id-from .given .1) in omega arith
-
-sub-decode-2 : tie.Need-sub-decode-2
-sub-decode-2 c =
+field-requires-2 : tie.Need-field-requires-2
+field-requires-2 c κs =
     let at-id-from = c .before .before .before .before in
-    entry-within (at-id-from .before .before .entry-at .ensures) (at-id-from .id-from .given .1) .1 .0
+    let at-entry-at = at-id-from .before .before in
+    (entry-within (at-entry-at .entry-at .ensures) (at-id-from .id-from .given .1) .1, at-entry-at .before .before .pre .2)
 
-part-decode-start-2 : tie.Need-part-decode-start-2
-part-decode-start-2 c =
-    let at-id-from = c .before .before .before .before in
-    let w = entry-within (at-id-from .before .before .entry-at .ensures) (at-id-from .id-from .given .1) in
-    omega arith
-
-part-decode-end-2 : tie.Need-part-decode-end-2
-part-decode-end-2 c =
-    let at-id-from = c .before .before .before .before in
-    let w = entry-within (at-id-from .before .before .entry-at .ensures) (at-id-from .id-from .given .1) in
-    omega arith
-
-sub-decode-3 : tie.Need-sub-decode-3
-sub-decode-3 c =
-    let at-id-from = c .before .before .before .before .before .before .before in
-    entry-within (at-id-from .before .before .entry-at .ensures) (at-id-from .id-from .given .1) .2 .0
-
-part-decode-start-3 : tie.Need-part-decode-start-3
-part-decode-start-3 c =
-    let at-id-from = c .before .before .before .before .before .before .before in
-    let w = entry-within (at-id-from .before .before .entry-at .ensures) (at-id-from .id-from .given .1) in
-    omega arith
-
-part-decode-end-3 : tie.Need-part-decode-end-3
-part-decode-end-3 c =
-    let at-id-from = c .before .before .before .before .before .before .before in
-    let w = entry-within (at-id-from .before .before .entry-at .ensures) (at-id-from .id-from .given .1) in
-    omega arith
+field-requires-3 : tie.Need-field-requires-3
+field-requires-3 c κs =
+    let at-id-from = c .before .before .before .before .before .before in
+    let at-entry-at = at-id-from .before .before in
+    (entry-within (at-entry-at .entry-at .ensures) (at-id-from .id-from .given .1) .2, at-entry-at .before .before .pre .3)
 
 returns : tie.Need-returns
 returns c =
-    let at-decode2 = c .before .before .before in
-    let at-decode = at-decode2 .before .before .before in
-    let at-id-from = at-decode .before .before .before .before in
-    related-is (at-id-from .before .before .entry-at .ensures) (at-id-from .id-from .given .1) (at-decode .decode .ensures)
-    (at-decode2 .decode2 .ensures) (c .decode3 .ensures)
+    let at-field2 = c .before .before in
+    let at-field = at-field2 .before .before in
+    let at-id-from = at-field .before .before .before in
+    related-is (at-id-from .before .before .entry-at .ensures) (at-id-from .id-from .given .1) (at-field .field .ensures)
+    (at-field2 .field2 .ensures) (c .field3 .ensures)
 
 returns-2 : tie.Need-returns-2
 returns-2 c =
@@ -71,6 +45,5 @@ pub related-fields-spec : {M : Type 1} → statement M
 related-fields-spec =
     tie.close
     (tie.spec
-    (λ c κs. search needs) (λ c. search needs) sub-decode part-decode-start part-decode-end (λ c κs. search needs) sub-decode-2
-    part-decode-start-2 part-decode-end-2 (λ c κs. search needs) sub-decode-3 part-decode-start-3 part-decode-end-3 (λ c κs. search needs)
-    (λ c. search needs) (λ c. search needs) returns returns-2 returns-3)
+    (λ c κs. search needs) (λ c. search needs) field-requires field-requires-2 field-requires-3 (λ c. search needs) (λ c. search needs)
+    returns returns-2 returns-3)
