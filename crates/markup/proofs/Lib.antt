@@ -28,6 +28,7 @@ pub mod EntryTags
 pub mod WrittenTags
 pub mod WrittenStreams
 pub mod EntryKinds
+pub mod PlacedEntries
 pub mod Fronts
 pub mod Refusals
 pub mod FrontTags

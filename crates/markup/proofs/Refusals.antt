@@ -2,7 +2,7 @@
 -- Assumes nothing.
 use Prim.Native.Nat.{ℕ, zero, suc, _+_, _-_}
 use native.Mathlib.Omega.{arith}
-use mathlib.Core.Path.{_≡_, refl}
+use mathlib.Core.Path.{_≡_, refl, subst}
 use mathlib.Core.Bool.{Bool, true, false, not, _&&_}
 use mathlib.Core.List.{List, [], _∷_, _++_}
 use mathlib.Core.Logic.{_⊎_, inl, inr}
@@ -144,6 +144,20 @@ module _ (P : ℕ → Type 0) (nineteen : P 19) where
     said-gives K s =
         where-gives (between false (afterDeclaration s)) (rootAt K) (gaps-gives (length (afterDeclaration s)) false (afterDeclaration s))
         (λ (t : List ℕ). choose-gives (opens t) (rootOf K (startTag (drop 1 t))) (Unread 19) (root-gives K (startTag (drop 1 t))) nineteen)
+
+    -- the stream's own refusal is none, or one of these
+    pub form-gives : (K : Kind) (s : List ℕ) → P 0 → P (formOf (said K s))
+    form-gives K s z = go (said K s) (said-gives K s)
+      where
+        go : (x : Said) → GivesSaid x → P (formOf x)
+        go (Says es t) g = z
+        go (Unread n) g = g
+
+-- a number that refuses a stream is not 0
+pub unread-some : (K : Kind) (s : List ℕ) (n : ℕ) → said K s ≡ Unread n → n ≡ 0 → ⊥
+unread-some K s n e =
+    let P : ℕ → Type 0 = λ (k : ℕ). k ≡ 0 → ⊥ in
+    subst (GivesSaid P (λ z. omega arith) (λ z. omega arith)) e (said-gives P (λ z. omega arith) (λ z. omega arith) K s)
 
 -- THE NUMBER 20 comes from an element or content
 never : (o : Outcome) → Gives (λ (n : ℕ). n ≡ 19) o → o ≡ Not 20 → ⊥

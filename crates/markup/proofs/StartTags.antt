@@ -11,7 +11,7 @@ use borrow.Author.Tests.{not-false, eqb-true}
 use Rattle.base.specs.Buffer.{part}
 use Rattle.markup.specs.Marks.{nameAt, afterBlanks}
 use Rattle.markup.specs.Tags.{Attribute, nextAttribute, attributesAt, afterAttributes, distinct, named, NoTag, closing, startAfter, startTag}
-use Rattle.markup.specs.Walks.{Reached, Spanned, SpanWithin, attributeIn, markOf, Marked, AllListed, ListedAt, EndAt, EndWithin, TagAt, TagWithin}
+use Rattle.markup.specs.Walks.{Reached, Spanned, SpanWithin, attributeIn, markOf, Marked, AllListed, TagListed, ListedAt, EndAt, EndWithin, TagAt, TagWithin}
 use Rattle.markup.specs.declared.attributes.Span.{Span}
 use Rattle.markup.specs.declared.attributes.Span.the-variants.{Given, Missing}
 use Rattle.markup.specs.declared.tags.Listed.{Listed}
@@ -46,8 +46,13 @@ module _ (s : List ℕ) (at : ℕ) (marks : List ℕ) (i k : ℕ) (so : Listing 
 
   module _ (r : Span) (p : Spanned s i (nextAttribute (drop i s)) r) where
     -- there are no more
-    pub listing-all : r ≡ Missing → AllListed s at k i
-    listing-all e = record { within = (so .from, so .to); distinctly = so .distinctly; rest = so .rest; none = missing-is s i r p e }
+    pub listing-all : r ≡ Missing → (q : ℕ) → Reached s i q → drop q s ≡ afterBlanks (drop i s) → TagListed s at k q
+    listing-all e q h b = record {
+      end = i;
+      listed = record { within = (so .from, so .to); distinctly = so .distinctly; rest = so .rest; none = missing-is s i r p e };
+      within = h;
+      behind = b;
+    }
 
     -- one more
     module _ (name nameEnd from to next : ℕ) (e : r ≡ Given name nameEnd from to next) where
@@ -84,8 +89,8 @@ module _ (s : List ℕ) (at : ℕ) (marks : List ℕ) (i k : ℕ) (so : Listing 
 
 -- what the attributes of a tag are told to be
 module _ (s : List ℕ) (at : ℕ) (r : Listed) (p : ListedAt s at r) where
-  pub listed-all : (count end : ℕ) → r ≡ All count end → AllListed s at count end
-  listed-all count end e = subst (λ (x : Listed). ListedAt s at x) e p
+  pub listed-all : (count next : ℕ) → r ≡ All count next → TagListed s at count next
+  listed-all count next e = subst (λ (x : Listed). ListedAt s at x) e p
 
   pub listed-repeated : r ≡ Repeated → distinct (attributesAt (length (drop at s)) (drop at s)) ≡ false
   listed-repeated e = subst (λ (x : Listed). ListedAt s at x) e p

@@ -9,7 +9,7 @@ use lib.Dec.{eqb, ltb}
 use lib.ListN.{length, getD, drop}
 use Rattle.base.specs.Buffer.{part}
 use Rattle.chars.specs.Lists.{lastByte}
-use Rattle.markup.specs.Marks.{Outcome, On, Not, malformed, tooDeep, less, ampersand, nameAt, prefixed, unquoted}
+use Rattle.markup.specs.Marks.{Outcome, On, Not, malformed, tooDeep, afterBlanks, less, ampersand, nameAt, prefixed, unquoted}
 use Rattle.markup.specs.Tags.{Attribute, Attributed, Has, HasNot, has, valued, nextAttribute, attributesAt, afterAttributes, distinct}
 use Rattle.markup.specs.Tags.{Started, begun, NoTag, closing, startTag}
 use Rattle.markup.specs.Elements.{element, content}
@@ -99,8 +99,15 @@ pub record AllListed (s : List ℕ) (at count end : ℕ) : Type 0 where
   pub rest : afterAttributes count (drop at s) ≡ drop end s
   pub none : nextAttribute (drop end s) ≡ HasNot
 
+-- and what stands behind them and blanks
+pub record TagListed (s : List ℕ) (at count next : ℕ) : Type 0 where
+  pub end : ℕ
+  pub listed : AllListed s at count end
+  pub within : (end ≤ next) × (next ≤ length s)
+  pub behind : drop next s ≡ afterBlanks (drop end s)
+
 abbrev pub ListedAt : List ℕ → ℕ → Listed → Type 0
-ListedAt s at (All count end) = AllListed s at count end
+ListedAt s at (All count next) = TagListed s at count next
 ListedAt s at Repeated = distinct (attributesAt (length (drop at s)) (drop at s)) ≡ false
 
 -- START TAGS: the end of the name, how many attributes there are, and what follows

@@ -13,9 +13,9 @@ ghost use mathlib.Core.Bool.{cond};
 ghost use Prim.Native.Nat.{_-_, _≤_};
 ghost use lib.ListN.{length, drop};
 ghost use Rattle.base.specs.Buffer.{part};
-ghost use Rattle.markup.specs.Marks.{prefixed};
+ghost use Rattle.markup.specs.Marks.{afterBlanks, prefixed};
 ghost use Rattle.markup.specs.Tags.{attributeAt, nextAttribute as nextOf, attributesAt, attributeNamed, own};
-ghost use Rattle.markup.specs.Walks.{ValueEnd, Spanned, Sought};
+ghost use Rattle.markup.specs.Walks.{Reached, ValueEnd, Spanned, Sought};
 
 // Where an attribute's name and the value between its quote marks stand, and where it ends.
 pub(crate) enum Span {
@@ -73,15 +73,23 @@ fn attribute(s: &[u8], at: usize) -> Span
     }
 }
 
+// The next attribute, where blanks go from `at` to `from`: they part it from what stands before.
+pub(crate) fn attribute_behind(s: &[u8], at: usize, from: usize) -> Span
+    requires { ⌜ Reached (now s) at from × (drop from (now s) ≡ afterBlanks (drop at (now s))) ⌝ }
+    ensures { λ r. ⌜ Spanned (now (s .entry)) at (nextOf (drop at (now (s .entry)))) r ⌝ }
+{
+    if is_blank(byte_at(s, at)) {
+        return attribute(s, from);
+    }
+    Span::Missing
+}
+
 // The next attribute, which blanks part from what stands before `at`.
 pub(crate) fn next_attribute(s: &[u8], at: usize) -> Span
     requires { ⌜ at ≤ length (now s) ⌝ }
     ensures { λ r. ⌜ Spanned (now (s .entry)) at (nextOf (drop at (now (s .entry)))) r ⌝ }
 {
-    if is_blank(byte_at(s, at)) {
-        return attribute(s, blanks_end(s, at));
-    }
-    Span::Missing
+    attribute_behind(s, at, blanks_end(s, at))
 }
 
 // The attribute of a name among the first `count` from `at` on.

@@ -1,7 +1,7 @@
 // Start tags and end tags.
 use crate::attributes::Span;
+use crate::attributes::attribute_behind;
 use crate::attributes::find_attribute;
-use crate::attributes::next_attribute;
 use crate::marks::MALFORMED;
 use crate::marks::Walk;
 use crate::marks::blanks_end;
@@ -31,9 +31,9 @@ pub(crate) enum Tagged {
     Unopened,
 }
 
-// The attributes of a tag: how many there are and where they end, if no two are of one name.
+// The attributes of a tag: how many there are, and what stands behind them and blanks, if no two are of one name.
 enum Listed {
-    All { count: usize, end: usize },
+    All { count: usize, next: usize },
     Repeated,
 }
 
@@ -94,7 +94,10 @@ fn many(s: &[u8], at: usize) -> Listed
         match read_chunk(s, i) {
             Chunk::Read { count, end } => {
                 if count == 0 {
-                    return Listed::All { count: k, end };
+                    return Listed::All {
+                        count: k,
+                        next: blanks_end(s, end),
+                    };
                 }
                 i = end;
                 k += count;
@@ -115,7 +118,8 @@ fn attributes(s: &[u8], at: usize) -> Listed
     let mut i = at;
     let mut k = 0;
     loop {
-        match next_attribute(s, i) {
+        let behind = blanks_end(s, i);
+        match attribute_behind(s, i, behind) {
             Span::Given {
                 name,
                 name_end,
@@ -135,7 +139,10 @@ fn attributes(s: &[u8], at: usize) -> Listed
                 k += 1;
             }
             Span::Missing => {
-                return Listed::All { count: k, end: i };
+                return Listed::All {
+                    count: k,
+                    next: behind,
+                };
             }
         }
     }
@@ -175,7 +182,7 @@ pub(crate) fn start_tag(s: &[u8], at: usize) -> Tagged
         return Tagged::Unopened;
     }
     match attributes(s, name_end) {
-        Listed::All { count, end } => tag_end(s, name_end, count, blanks_end(s, end)),
+        Listed::All { count, next } => tag_end(s, name_end, count, next),
         Listed::Repeated => Tagged::Unopened,
     }
 }

@@ -6,18 +6,17 @@ use Rattle.markup.proofs.tags.start_tag.Tie as tie
 returns : tie.Need-returns
 returns c = let at-name = c .before in tag-nameless _ _ _ (at-name .name-end .ensures .0) (at-name .name-end .ensures .1) (c .if1 .taken)
 
-blanks-end-requires : tie.Need-blanks-end-requires
-blanks-end-requires c κs = listed-all _ _ _ (c .before .before .before .attributes .ensures) _ _ (c .before .count .given .1) .within .1
+tag-end-requires : tie.Need-tag-end-requires
+tag-end-requires c κs = listed-all _ _ _ (c .before .before .before .attributes .ensures) _ _ (c .before .count .given .1) .within .1
 
 returns-2 : tie.Need-returns-2
 returns-2 c =
-    let at-blanks = c .before in
-    let at-count = at-blanks .before .before in
+    let at-count = c .before .before in
     let at-attributes = at-count .before .before in
     let at-name = at-attributes .before .before in
-    tag-is _ _ _ (at-name .name-end .ensures .0) (at-name .name-end .ensures .1) (at-attributes .before .if1 .left) _ _ _
-    (listed-all _ _ _ (at-attributes .attributes .ensures) _ _ (at-count .count .given .1)) (at-blanks .blanks-end .ensures .1)
-    (at-blanks .blanks-end .ensures .0 .0) _ (c .tag-end .ensures)
+    let all = listed-all _ _ _ (at-attributes .attributes .ensures) _ _ (at-count .count .given .1) in
+    tag-is _ _ _ (at-name .name-end .ensures .0) (at-name .name-end .ensures .1) (at-attributes .before .if1 .left) _ _ _ (all .listed) (all .behind)
+    (all .within .0) _ (c .tag-end .ensures)
 
 returns-3 : tie.Need-returns-3
 returns-3 c =
@@ -30,5 +29,4 @@ pub start-tag-spec : {M : Type 1} → statement M
 start-tag-spec =
     tie.close
     (tie.spec
-    (λ c κs. search needs) returns (λ c κs. search needs) (λ c. search needs) blanks-end-requires (λ c κs. search needs) (λ c. search needs)
-    returns-2 returns-3)
+    (λ c κs. search needs) returns (λ c κs. search needs) (λ c. search needs) tag-end-requires (λ c. search needs) returns-2 returns-3)
