@@ -12,7 +12,7 @@ use Rattle.model.specs.Package.{Item, Default, Override, Relationship, S
 use Rattle.model.specs.Puts.{putRefusal, dropRefusal, putIn, takenOut, misfits, putItemRefusal, putDefaultRefusal, putOverrideRefusal}
 use Rattle.model.specs.Puts.{putRelationshipRefusal, dropItemRefusal, dropDefaultRefusal, dropOverrideRefusal, dropRelationshipRefusal}
 use Rattle.model.specs.Calls.{Change, PutItem, DropItem, PutDefault, DropDefault, PutOverride, DropOverride, PutRelationship, DropRelationship}
-use Rattle.model.specs.Calls.{JoinPart, done, changed, change, changeRefusal, changeMade}
+use Rattle.model.specs.Calls.{JoinPart, ReadTypes, ReadRelationships, done, changed, change, changeRefusal, changeMade}
 use Rattle.model.specs.Demand.{dropOf, IsPut}
 use Rattle.model.proofs.Lists.{each-append}
 use Rattle.model.proofs.Sets.{remove-insert}
@@ -84,3 +84,5 @@ undone S (PutRelationship source id type mode target) p h =
     (drop-met relationshipKind relationship-lawful S new [] h (sourceField source ∷ idField id ∷ []) (f .0, (f .1 .0, tt))) refl
 undone S (DropRelationship source id) p h = absurd p
 undone S (JoinPart name) p h = absurd p
+undone S (ReadTypes stream) p h = absurd p
+undone S (ReadRelationships source stream) p h = absurd p

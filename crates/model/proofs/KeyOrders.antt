@@ -13,6 +13,11 @@ pub key-refl : (a : Key) → keyOrder a a ≡ Equal
 unfolding keyOrder thenBy
 key-refl a = rw (order-refl (a .0)) (order-refl (a .1))
 
+-- where the first texts are one, the second ones decide
+pub key-second : (a b c : Bytes) → keyOrder (a, b) (a, c) ≡ order b c
+unfolding keyOrder thenBy
+key-second a b c = rw (order-refl a)
+
 pub key-equal : (a b : Key) → keyOrder a b ≡ Equal → (a .0 ≡ b .0) × (a .1 ≡ b .1)
 unfolding keyOrder thenBy
 key-equal a b h = go (order (a .0) (b .0)) refl h

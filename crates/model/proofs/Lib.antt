@@ -43,6 +43,7 @@ pub mod Neighbours
 pub mod Slashes
 pub mod FreshPuts
 pub mod EntryLists
+pub mod EntryCounts
 pub mod ReadingDemands
 pub mod WrittenValues
 pub mod WrittenLines

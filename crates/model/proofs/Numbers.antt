@@ -16,6 +16,9 @@ use Rattle.names.specs.Iris.{iri, packageIri}
 use Rattle.names.specs.declared.items.Suffix.{Suffix}
 use Rattle.names.specs.declared.items.Suffix.the-variants.{Whole, Piece}
 use Rattle.names.specs.declared.items.ItemName.{ItemName}
+use Rattle.markup.specs.Streams.{said, formOf}
+use Rattle.markup.specs.declared.entries.Kind.{Kind as StreamKind}
+use Rattle.markup.specs.declared.entries.Kind.the-variants.{Types, Relationships}
 use Rattle.targets.specs.Targets.{internal, resolvePath, sourceRefusal, internalRefusal, targetRefusal}
 use Rattle.model.specs.Sets.{Bytes, Key, held, any, lookup, Each}
 use Rattle.model.specs.Fields.{when, first, prefixOf, suffixOf, askedField, itemField, partField, extensionField, sourceField}
@@ -26,11 +29,13 @@ use Rattle.model.specs.Cutting.{isWhole, cutMade, overfull, cutRefusal, 
 use Rattle.model.specs.Puts.{noRoom, putRefusal, dropRefusal, misfits, clash, putItemRefusal, putDefaultRefusal, putOverrideRefusal}
 use Rattle.model.specs.Puts.{putRelationshipRefusal, dropItemRefusal, dropDefaultRefusal, dropOverrideRefusal, dropRelationshipRefusal}
 use Rattle.model.specs.Reading.{Entered, ADefault, AnOverride, ARelationship, entryRefusal, entryMade, entriesRefusal}
+use Rattle.model.specs.Reading.{typesIn, relationshipsIn, readTypesRefusal, readRelationshipsRefusal}
 use Rattle.model.specs.Calls.{Change, PutItem, DropItem, PutDefault, DropDefault, PutOverride, DropOverride, PutRelationship, DropRelationship}
-use Rattle.model.specs.Calls.{JoinPart, Numbered, changeRefusal, askedRefusal}
+use Rattle.model.specs.Calls.{JoinPart, ReadTypes, ReadRelationships, Numbered, changeRefusal, askedRefusal}
+use Rattle.markup.proofs.Refusals.{form-gives}
 use Rattle.model.proofs.Lists.{each-append}
 
-pub numbered : (n : ℕ) → 2 ≤ n → n ≤ 18 → Numbered n
+pub numbered : (n : ℕ) → 2 ≤ n → n ≤ 20 → Numbered n
 numbered n h q = (q, λ e. omega arith)
 
 pub zero-numbered : Numbered 0
@@ -40,7 +45,7 @@ cond-numbered : (b : Bool) (m n : ℕ) → Numbered m → Numbered n → Numbere
 cond-numbered true m n h k = h
 cond-numbered false m n h k = k
 
-pub when-numbered : (b : Bool) (n : ℕ) → 2 ≤ n → n ≤ 18 → Numbered (when b n)
+pub when-numbered : (b : Bool) (n : ℕ) → 2 ≤ n → n ≤ 20 → Numbered (when b n)
 when-numbered b n h q = cond-numbered b n 0 (numbered n h q) zero-numbered
 
 pub all-numbered : (ns : List ℕ) → Each (λ (n : ℕ). Numbered n) ns → Numbered (first ns)
@@ -143,15 +148,15 @@ module _ {E : Type 0} (kind : Kind E) (S : State) where
   drop-numbered fields k f =
       all-numbered _ (each-append (λ (n : ℕ). Numbered n) fields _ f (thirteen (lookup (kind .key) k (kind .entries S)), tt))
 
-default-numbered : (d : Default) → Numbered (defaultKind .fields d)
+pub default-numbered : (d : Default) → Numbered (defaultKind .fields d)
 unfolding defaultFields
 default-numbered d = all-numbered _ (seven (not (extension (d .extension))), (seven (not (mediaType (d .type))), tt))
 
-override-numbered : (o : Override) → Numbered (overrideKind .fields o)
+pub override-numbered : (o : Override) → Numbered (overrideKind .fields o)
 unfolding overrideFields
 override-numbered o = all-numbered _ (part-field-numbered (o .name), (seven (not (mediaType (o .type))), tt))
 
-relationship-numbered : (r : Relationship) → Numbered (relationshipKind .fields r)
+pub relationship-numbered : (r : Relationship) → Numbered (relationshipKind .fields r)
 unfolding relationshipFields
 relationship-numbered r =
     all-numbered _ (
@@ -194,7 +199,10 @@ join-numbered S s =
       ),
     )
 
--- the entries of a stream
+-- a stream, and its entries
+form-numbered : (K : StreamKind) (s : Bytes) → Numbered (formOf (said K s))
+form-numbered K s = form-gives Numbered (numbered 19 (omega arith) (omega arith)) (numbered 20 (omega arith) (omega arith)) K s zero-numbered
+
 entry-numbered : (S : State) (e : Entered) → Numbered (entryRefusal S e)
 unfolding putDefaultRefusal putOverrideRefusal putRelationshipRefusal
 entry-numbered S (ADefault d) = put-numbered defaultKind S d [] (default-numbered d) tt
@@ -208,7 +216,7 @@ entries-numbered S (e ∷ es) = all-numbered _ (entry-numbered S e, (entries-num
 
 pub change-numbered : (S : State) (c : Change) → Numbered (changeRefusal S c)
 unfolding putItemRefusal dropItemRefusal putDefaultRefusal dropDefaultRefusal putOverrideRefusal dropOverrideRefusal
-    putRelationshipRefusal dropRelationshipRefusal
+    putRelationshipRefusal dropRelationshipRefusal readTypesRefusal readRelationshipsRefusal
 change-numbered S (PutItem s x) =
     put-numbered itemKind S (record { name = s; bytes = x }) (misfits s (S .items)) (item-field-numbered s) (misfits-numbered s (S .items))
 change-numbered S (DropItem s) = all-numbered _ (item-field-numbered s, (thirteen (itemAt s (S .items)), tt))
@@ -222,6 +230,9 @@ change-numbered S (DropRelationship s i) =
     drop-numbered relationshipKind S (sourceField s ∷ idField i ∷ []) (relationshipKey s i)
     (source-field-numbered s, (eight (not (identifier i)), tt))
 change-numbered S (JoinPart s) = join-numbered S s
+change-numbered S (ReadTypes x) = all-numbered _ (form-numbered Types x, (entries-numbered S (typesIn x), tt))
+change-numbered S (ReadRelationships s x) =
+    all-numbered _ (source-field-numbered s, (form-numbered Relationships x, (entries-numbered S (relationshipsIn s x), tt)))
 
 -- the fields of a resolution, and of a stream's source
 pub resolve-fields-numbered : (s i base : Bytes) → Numbered (first (sourceField s ∷ idField i ∷ packageField base ∷ []))

@@ -1,24 +1,22 @@
 -- A stream is read as its entries are put, all or none (request 5 of document 02).
 -- Assumes nothing.
-use Prim.Native.Nat.{ℕ, suc}
+use Prim.Native.Nat.{ℕ}
 use mathlib.Core.Path.{_≡_, refl, ap, sym, _∙_}
 use mathlib.Core.Bool.{Bool, true, false}
 use mathlib.Core.List.{List, [], _∷_, _++_}
 use lib.Dec.{eqb}
-use lib.ListN.{length}
 use borrow.Author.Tests.{ne-eqb}
 use Rattle.output.specs.Answers.{Answer}
-use Rattle.markup.specs.Entries.{Entry, SaysDefault, SaysOverride, SaysRelationship}
 use Rattle.markup.specs.Streams.{said, entriesOf, formOf}
 use Rattle.markup.specs.declared.entries.Kind.the-variants.{Types, Relationships}
-use Rattle.markup.proofs.EntryKinds.{AllOf, said-of}
-use Rattle.model.specs.Sets.{Bytes}
+use Rattle.markup.proofs.EntryKinds.{said-of}
 use Rattle.model.specs.Fields.{first, sourceField}
 use Rattle.model.specs.Package.{State}
-use Rattle.model.specs.Reading.{Entered, ADefault, AnOverride, ARelationship, typesSaid, relationshipsSaid, typesIn, relationshipsIn}
+use Rattle.model.specs.Reading.{Entered, ADefault, AnOverride, ARelationship, typesIn, relationshipsIn}
 use Rattle.model.specs.Reading.{entryRefusal, entryMade, entriesRefusal, entriesMade, readTypesRefusal, readRelationshipsRefusal}
 use Rattle.model.specs.Calls.{done, refused, pick, changed, change, step, answers, after}
 use Rattle.model.specs.ReadingDemand.{putOf, putsOf, AllTaken, ReadInto, TypesAreRead, RelationshipsAreRead, NoneIsLeftOut}
+use Rattle.model.proofs.EntryCounts.{types-saying, relationships-saying, say-length}
 use Rattle.model.proofs.Refusals.{all-none, first-append, first-met, first-unmet, first-one, changed-done, changed-accepted, picked}
 
 -- ONE ENTRY: its put is a change like any other
@@ -114,32 +112,18 @@ read-into room S form es n e = record {
 }
 
 pub types-are-read : TypesAreRead
-unfolding readTypesRefusal
+unfolding change readTypesRefusal
 types-are-read room S stream = read-into room S (formOf (said Types stream)) (typesIn stream) _ refl
 
 pub relationships-are-read : RelationshipsAreRead
-unfolding readRelationshipsRefusal
+unfolding change readRelationshipsRefusal
 relationships-are-read room S source stream =
     read-into room S (first (sourceField source ∷ formOf (said Relationships stream) ∷ [])) (relationshipsIn source stream) _
     (first-append (sourceField source ∷ formOf (said Relationships stream) ∷ []) (entriesRefusal S (relationshipsIn source stream) ∷ []))
 
 -- NOTHING THAT A STREAM SAYS IS LEFT OUT
-types-length : (es : List Entry) → AllOf Types es → length (typesSaid es) ≡ length es
-unfolding typesSaid
-types-length [] h = refl
-types-length (SaysDefault extension type ∷ es) h = ap suc (types-length es (h .1))
-types-length (SaysOverride name type ∷ es) h = ap suc (types-length es (h .1))
-types-length (SaysRelationship id type mode target ∷ es) h = absurd (h .0)
-
-relationships-length : (source : Bytes) (es : List Entry) → AllOf Relationships es → length (relationshipsSaid source es) ≡ length es
-unfolding relationshipsSaid
-relationships-length source [] h = refl
-relationships-length source (SaysDefault extension type ∷ es) h = absurd (h .0)
-relationships-length source (SaysOverride name type ∷ es) h = absurd (h .0)
-relationships-length source (SaysRelationship id type mode target ∷ es) h = ap suc (relationships-length source es (h .1))
-
 pub none-is-left-out : NoneIsLeftOut
 none-is-left-out source stream = (
-  types-length (entriesOf (said Types stream)) (said-of Types stream),
-  relationships-length source (entriesOf (said Relationships stream)) (said-of Relationships stream),
+  say-length types-saying (entriesOf (said Types stream)) (said-of Types stream),
+  say-length (relationships-saying source) (entriesOf (said Relationships stream)) (said-of Relationships stream),
 )

@@ -1,7 +1,7 @@
 -- A list of refusals, and what it says where none is met.
 -- Assumes nothing.
 use Prim.Native.Nat.{ℕ, _+_, _≤_, _<_}
-use mathlib.Core.Path.{_≡_, refl, sym, _∙_}
+use mathlib.Core.Path.{_≡_, refl, sym, ap, _∙_}
 use mathlib.Core.Bool.{Bool, true, false, cond}
 use mathlib.Core.List.{List, [], _∷_, _++_}
 use native.Mathlib.Omega.{arith}
@@ -107,3 +107,11 @@ module _ (n : ℕ) (S T : State) where
 
   pub changed-accepted : changed n S T .0 .number ≡ 0 → n ≡ 0
   changed-accepted = picked-accepted done (refused n) refl
+
+  -- what it makes matters only where it is made
+  pub changed-same : (U : State) → (n ≡ 0 → T ≡ U) → changed n S T ≡ changed n S U
+  changed-same U e = go (eqb n 0) refl
+    where
+      go : (b : Bool) → eqb n 0 ≡ b → changed n S T ≡ changed n S U
+      go true z = ap (λ (W : State). changed n S W) (e (eqb-true n 0 z))
+      go false z = rw z refl

@@ -26,9 +26,9 @@ use Rattle.model.specs.Puts.{withRelationships}
 use Rattle.model.specs.Reading.{Entered, ARelationship, relationshipsSaid, relationshipsIn, entriesRefusal, entriesMade}
 use Rattle.model.specs.Reading.{readRelationshipsRefusal, readRelationshipsMade}
 use Rattle.output.specs.Answers.{Answer}
-use Rattle.model.specs.Calls.{done}
+use Rattle.model.specs.Calls.{ReadRelationships, done, change}
 use Rattle.model.specs.Good.{Good}
-use Rattle.model.specs.ReadingDemand.{respelled, writtenOf, TakesRelationships, GotBack, RelationshipsReadBack, readRelationships}
+use Rattle.model.specs.ReadingDemand.{respelled, writtenOf, TakesRelationships, GotBack, RelationshipsReadBack}
 use Rattle.model.proofs.Lists.{each-map, each-all, each-filter, pairs-filter, filter-all}
 use Rattle.model.proofs.Keys.{same-relationship-key}
 use Rattle.model.proofs.Sets.{Absent}
@@ -221,11 +221,12 @@ module _ (source again : Bytes) (S T : State) (g : Good S) (w : Good T) (s : sou
           (T .relationships) (λ r h. ap not h) others);
     }
 
-    read : readRelationships T again (relationshipsText source S) ≡ (done, withRelationships T (allIn keyOfRelationship es (T .relationships)))
+    read : change T (ReadRelationships again (relationshipsText source S)) ≡ (done, withRelationships T (allIn keyOfRelationship es (T .relationships)))
+    unfolding change
     read = changed-done _ T _ refusal ∙ ap (λ (U : State). (done, U)) after
 
 pub relationships-read-back : RelationshipsReadBack
-relationships-read-back source again S T g w s e k =
+relationships-read-back room source again S T g w s e k =
     let r = read source again S T g w s e k in (
       ap (λ (a : Answer × State). a .0) r,
       subst (λ (a : Answer × State). GotBack source again S T (a .1)) (sym r) (got-back source again S T g w s e k),

@@ -16,9 +16,10 @@ use Rattle.model.specs.Cutting.{cutMade, cutRefusal}
 use Rattle.model.specs.Puts.{putRefusal, putIn, takenOut, misfits, putItemRefusal, putDefaultRefusal, putOverrideRefusal}
 use Rattle.model.specs.Puts.{putRelationshipRefusal}
 use Rattle.model.specs.Reading.{Entered, ADefault, AnOverride, ARelationship, entryRefusal, entryMade, entriesRefusal, entriesMade}
+use Rattle.model.specs.Reading.{typesIn, relationshipsIn, readTypesRefusal, readRelationshipsRefusal}
 use Rattle.model.specs.Calls.{Call, Start, Looks, Changes, CutPart, TypeOrigin, Prints, capacityLimit, overhead, startRefusal, cut, step, after}
 use Rattle.model.specs.Calls.{Change, PutItem, DropItem, PutDefault, DropDefault, PutOverride, DropOverride, PutRelationship, DropRelationship}
-use Rattle.model.specs.Calls.{JoinPart, changeRefusal, changeMade, change}
+use Rattle.model.specs.Calls.{JoinPart, ReadTypes, ReadRelationships, changeRefusal, changeMade, change}
 use Rattle.model.specs.Good.{GoodSet, Beside, Good}
 use Rattle.base.proofs.Bools.{or-false-left}
 use Rattle.model.proofs.Lists.{each-map, each-both, any-none, any-filter-none}
@@ -115,7 +116,7 @@ module _ (S : State) (new : Item) (h : putRefusal itemKind S new (misfits (new .
       (each-map (Beside new) (λ (i : Item). Beside i new) (S .items) (λ i b. beside-comm new i b) new-beside) b
 
 -- ENTRIES OF A STREAM, put in one after the other
-entry-good : (S : State) (e : Entered) → Good S → entryRefusal S e ≡ 0 → Good (entryMade S e)
+pub entry-good : (S : State) (e : Entered) → Good S → entryRefusal S e ≡ 0 → Good (entryMade S e)
 unfolding putDefaultRefusal putOverrideRefusal putRelationshipRefusal
 entry-good S (ADefault d) g h = put-good defaultKind default-lawful S g d [] h (g .beside)
 entry-good S (AnOverride o) g h = put-good overrideKind override-lawful S g o [] h (g .beside)
@@ -130,7 +131,7 @@ entries-good S (e ∷ es) g h =
 
 -- EVERY CHANGE
 pub made-good : (S : State) (c : Change) → Good S → changeRefusal S c ≡ 0 → Good (changeMade S c)
-unfolding putItemRefusal putDefaultRefusal putOverrideRefusal putRelationshipRefusal
+unfolding putItemRefusal putDefaultRefusal putOverrideRefusal putRelationshipRefusal readTypesRefusal readRelationshipsRefusal
 made-good S (PutItem name bytes) g h = put-good itemKind item-lawful S g _ (misfits name (S .items)) h (put-beside S _ h (g .beside))
 made-good S (DropItem name) g h =
     drop-good itemKind item-lawful S g (itemKey name) (pairs-remove keyOfItem Beside (itemKey name) (S .items) (g .beside))
@@ -141,6 +142,8 @@ made-good S (DropOverride name) g h = drop-good overrideKind override-lawful S g
 made-good S (PutRelationship source id type mode target) g h = put-good relationshipKind relationship-lawful S g _ [] h (g .beside)
 made-good S (DropRelationship source id) g h = drop-good relationshipKind relationship-lawful S g (relationshipKey source id) (g .beside)
 made-good S (JoinPart name) g h = join-good S name g h
+made-good S (ReadTypes stream) g h = entries-good S (typesIn stream) g (all-none _ h .1 .0)
+made-good S (ReadRelationships source stream) g h = entries-good S (relationshipsIn source stream) g (all-none _ h .1 .1 .0)
 
 pub change-good : (S : State) (c : Change) → Good S → Good (change S c .1)
 unfolding change

@@ -17,7 +17,7 @@ use Rattle.model.specs.Package.{State, Default, Override, Kind, defaultK
 use Rattle.model.specs.Texts.{defaultLine, overrideLine, typesText}
 use Rattle.model.specs.Puts.{withDefaults, withOverrides}
 use Rattle.model.specs.Reading.{Entered, ADefault, AnOverride, typesSaid, typesIn, entriesRefusal, entriesMade, readTypesRefusal, readTypesMade}
-use Rattle.model.specs.Calls.{done}
+use Rattle.model.specs.Calls.{done, change}
 use Rattle.model.specs.Good.{Good, GoodSet}
 use Rattle.model.specs.ReadingDemand.{TakesTypes, TypesReadBack}
 use Rattle.model.proofs.Lists.{each-map, each-all}
@@ -122,4 +122,5 @@ module _ (S T : State) (g : Good S) (t : TakesTypes S T) where
       ∙ set-made overrideKind override-lawful AnOverride overrides-put (S .overrides) (g .overrides) D (t .noOverrides) within []
 
 pub types-read-back : TypesReadBack
-types-read-back S T g t = changed-done _ T _ (refusal S T g t) ∙ ap (λ (U : State). (done, U)) (after S T g t)
+unfolding change
+types-read-back room S T g t = changed-done _ T _ (refusal S T g t) ∙ ap (λ (U : State). (done, U)) (after S T g t)

@@ -19,6 +19,7 @@ use Rattle.model.specs.Package.{group, isPart, content, spelling, parts,
 use Rattle.model.specs.Texts.{typesText, relationshipsText}
 use Rattle.model.specs.Puts.{putIn, takenOut, putItemRefusal, dropItemRefusal, putDefaultRefusal, dropDefaultRefusal}
 use Rattle.model.specs.Puts.{putOverrideRefusal, dropOverrideRefusal, putRelationshipRefusal, dropRelationshipRefusal}
+use Rattle.model.specs.Reading.{readTypesRefusal, readRelationshipsRefusal, readTypesMade, readRelationshipsMade}
 use Rattle.model.specs.Cutting.{quotient, rest, cutMade, joinMade, cutRefusal, joinRefusal}
 use Rattle.model.specs.TypeOrigin.{typeOrigin}
 
@@ -39,6 +40,8 @@ pub data Change : Type 0 where
   PutRelationship : (source id type : Bytes) (mode : ℕ) (target : Bytes) → Change
   DropRelationship : (source id : Bytes) → Change
   JoinPart : (name : Bytes) → Change
+  ReadTypes : (stream : Bytes) → Change
+  ReadRelationships : (source stream : Bytes) → Change
 
 -- a call that writes into a lent output
 pub data Print : Type 0 where
@@ -69,7 +72,7 @@ refused n = answer n (0 ∷ []) []
 
 -- "refuses by a number from document 01" or document 02; on a buffer that passes the test not by 1
 abbrev pub Numbered : ℕ → Type 0
-Numbered n = (n ≤ 18) × (n ≡ 1 → ⊥)
+Numbered n = (n ≤ 20) × (n ≡ 1 → ⊥)
 
 abbrev pub pick : Bool → Answer × State → Answer × State → Answer × State
 pick true a b = a
@@ -100,6 +103,8 @@ changeRefusal S (DropOverride name) = dropOverrideRefusal S name
 changeRefusal S (PutRelationship source id type mode target) = putRelationshipRefusal S source id type mode target
 changeRefusal S (DropRelationship source id) = dropRelationshipRefusal S source id
 changeRefusal S (JoinPart name) = joinRefusal S name
+changeRefusal S (ReadTypes stream) = readTypesRefusal S stream
+changeRefusal S (ReadRelationships source stream) = readRelationshipsRefusal S source stream
 
 -- the package after an accepted change: "Every field keeps its given spelling."
 abbrev pub changeMade : State → Change → State
@@ -113,6 +118,8 @@ changeMade S (PutRelationship source id type mode target) =
     putIn relationshipKind S (record { source = source; id = id; type = type; mode = mode; target = target })
 changeMade S (DropRelationship source id) = takenOut relationshipKind S (relationshipKey source id)
 changeMade S (JoinPart name) = joinMade S name
+changeMade S (ReadTypes stream) = readTypesMade S stream
+changeMade S (ReadRelationships source stream) = readRelationshipsMade S source stream
 
 unfoldable pub change : State → Change → Answer × State
 change S c = changed (changeRefusal S c) S (changeMade S c)

@@ -16,8 +16,8 @@ use Rattle.model.specs.Sets.{Bytes, sameKey, lookup, sumOf}
 use Rattle.model.specs.Fields.{suffixOf, itemField}
 use Rattle.model.specs.Package.{State, empty, itemKey, nameKey, keyOfOverride, itemCharge, defaultCharge, overrideCharge, relationshipCharge, group, isPart, parts, extensionOf}
 use Rattle.model.specs.Calls.{Call, Looks, Changes, Prints, Find, View, Totals, Change, PutItem, DropItem, PutDefault, DropDefault}
-use Rattle.model.specs.Calls.{PutOverride, DropOverride, PutRelationship, DropRelationship, JoinPart, ReadPart, MediaType, done, startRefusal}
-use Rattle.model.specs.Calls.{step, after}
+use Rattle.model.specs.Calls.{PutOverride, DropOverride, PutRelationship, DropRelationship, JoinPart, ReadTypes, ReadRelationships, ReadPart, MediaType}
+use Rattle.model.specs.Calls.{done, startRefusal, step, after}
 use Rattle.model.specs.Good.{Good}
 
 -- "A list of demand 3 starts from a package that an accepted start has just left": after every such list the package is good
@@ -84,6 +84,8 @@ dropOf (DropOverride name) = DropOverride name
 dropOf (PutRelationship source id type mode target) = DropRelationship source id
 dropOf (DropRelationship source id) = DropRelationship source id
 dropOf (JoinPart name) = JoinPart name
+dropOf (ReadTypes stream) = ReadTypes stream
+dropOf (ReadRelationships source stream) = ReadRelationships source stream
 
 abbrev pub IsPut : Change → Type 0
 IsPut (PutItem name bytes) = Unit {0}
@@ -95,6 +97,8 @@ IsPut (DropOverride name) = ⊥
 IsPut (PutRelationship source id type mode target) = Unit {0}
 IsPut (DropRelationship source id) = ⊥
 IsPut (JoinPart name) = ⊥
+IsPut (ReadTypes stream) = ⊥
+IsPut (ReadRelationships source stream) = ⊥
 
 -- an accepted put, then the drop of the same: accepted, and the very package
 abbrev pub DropsUndoPuts : Type 0

@@ -16,16 +16,8 @@ use Rattle.model.specs.Package.{State, Relationship, relationshipLimit, 
 use Rattle.model.specs.Texts.{typesText, ofSource, relationshipsText}
 use Rattle.model.specs.Puts.{withDefaults, withOverrides}
 use Rattle.model.specs.Reading.{Entered, ADefault, AnOverride, ARelationship, typesIn, relationshipsIn}
-use Rattle.model.specs.Reading.{readTypesRefusal, readRelationshipsRefusal, readTypesMade, readRelationshipsMade}
-use Rattle.model.specs.Calls.{Call, Changes, PutDefault, PutOverride, PutRelationship, done, refused, changed, step, answers, after}
+use Rattle.model.specs.Calls.{Call, Changes, PutDefault, PutOverride, PutRelationship, ReadTypes, ReadRelationships, done, refused, step, answers, after}
 use Rattle.model.specs.Good.{Good}
-
--- the calls: what each answers, and the package after it
-abbrev pub readTypes : State → Bytes → Answer × State
-readTypes S stream = changed (readTypesRefusal S stream) S (readTypesMade S stream)
-
-abbrev pub readRelationships : State → Bytes → Bytes → Answer × State
-readRelationships S source stream = changed (readRelationshipsRefusal S source stream) S (readRelationshipsMade S source stream)
 
 -- ALL ENTRIES OR NONE. An entry's own put
 abbrev pub putOf : Entered → Call
@@ -54,13 +46,16 @@ pub record ReadInto (room : ℕ) (S : State) (form : ℕ) (es : List Entered) (r
       AllTaken room S before → step room (after room S (putsOf before)) (putOf e) .0 ≡ refused n → (n ≡ 0 → ⊥) → r ≡ (refused n, S)
 
 abbrev pub TypesAreRead : Type 0
-TypesAreRead = (room : ℕ) (S : State) (stream : Bytes) → ReadInto room S (formOf (said Types stream)) (typesIn stream) (readTypes S stream)
+TypesAreRead =
+    (room : ℕ) (S : State) (stream : Bytes) →
+    ReadInto room S (formOf (said Types stream)) (typesIn stream) (step room S (Changes (ReadTypes stream)))
 
 -- "both after .. the source's own refusals"
 abbrev pub RelationshipsAreRead : Type 0
 RelationshipsAreRead =
     (room : ℕ) (S : State) (source stream : Bytes) →
-    ReadInto room S (first (sourceField source ∷ formOf (said Relationships stream) ∷ [])) (relationshipsIn source stream) (readRelationships S source stream)
+    ReadInto room S (first (sourceField source ∷ formOf (said Relationships stream) ∷ [])) (relationshipsIn source stream)
+    (step room S (Changes (ReadRelationships source stream)))
 
 -- and none of what the stream says is left out
 abbrev pub NoneIsLeftOut : Type 0
@@ -77,7 +72,9 @@ pub record TakesTypes (S T : State) : Type 0 where
 
 -- "What our writer wrote is read back .. as the same entries"
 abbrev pub TypesReadBack : Type 0
-TypesReadBack = (S T : State) → Good S → TakesTypes S T → readTypes T (typesText S) ≡ (done, withOverrides (withDefaults T (S .defaults)) (S .overrides))
+TypesReadBack =
+    (room : ℕ) (S T : State) → Good S → TakesTypes S T →
+    step room T (Changes (ReadTypes (typesText S))) ≡ (done, withOverrides (withDefaults T (S .defaults)) (S .overrides))
 
 -- "but for that source's spelling"
 abbrev pub respelled : Bytes → Relationship → Relationship
@@ -108,6 +105,7 @@ pub record GotBack (source again : Bytes) (S T U : State) : Type 0 where
 -- "is read back with the same source": in whichever spelling
 abbrev pub RelationshipsReadBack : Type 0
 RelationshipsReadBack =
-    (source again : Bytes) (S T : State) → Good S → Good T → sourceField again ≡ 0 → equivalent source again ≡ true → TakesRelationships source again S T →
-    (readRelationships T again (relationshipsText source S) .0 ≡ done)
-    × GotBack source again S T (readRelationships T again (relationshipsText source S) .1)
+    (room : ℕ) (source again : Bytes) (S T : State) → Good S → Good T → sourceField again ≡ 0 → equivalent source again ≡ true →
+    TakesRelationships source again S T →
+    (step room T (Changes (ReadRelationships again (relationshipsText source S))) .0 ≡ done)
+    × GotBack source again S T (step room T (Changes (ReadRelationships again (relationshipsText source S))) .1)
