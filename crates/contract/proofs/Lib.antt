@@ -5,6 +5,7 @@ pub mod RowLists
 pub mod RowKinds
 pub mod RowOrders
 pub mod RowCharges
+pub mod EmptyRows
 pub mod Opening
 pub mod Rans
 pub mod ItemRows
@@ -12,4 +13,5 @@ pub mod SetRows
 pub mod FieldSizes
 pub mod RowEntries
 pub mod SetStates
+pub mod EnteredRows
 pub mod SetCalls

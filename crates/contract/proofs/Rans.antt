@@ -176,17 +176,17 @@ foreign-small (CutPart name n) = omega arith
 foreign-small (TypeOrigin name output) = omega arith
 foreign-small (Prints w output) = omega arith
 
-tested : (c : Call) (p : List ℕ) (a : Answer) (q : List ℕ) → Ran c p a q → starts c ≡ false → a .number ≤ 18
+tested : (c : Call) (p : List ℕ) (a : Answer) (q : List ℕ) → Ran c p a q → starts c ≡ false → a .number ≤ 20
 tested c p a q r s = go (isPackage p) refl
   where
-    go : (t : Bool) → isPackage p ≡ t → a .number ≤ 18
+    go : (t : Bool) → isPackage p ≡ t → a .number ≤ 20
     go true e = r .numbered s e .0
     go false e = omega (arith, foreign-small c, ap (λ (x : Answer). x .number) (r .foreign s e))
 
-pub ran-number : (c : Call) (p : List ℕ) (a : Answer) (q : List ℕ) → Ran c p a q → a .number ≤ 18
+pub ran-number : (c : Call) (p : List ℕ) (a : Answer) (q : List ℕ) → Ran c p a q → a .number ≤ 20
 ran-number (Start C) p a q r = go (eqb (startRefusal (length p) C) 0) refl
   where
-    go : (t : Bool) → eqb (startRefusal (length p) C) 0 ≡ t → a .number ≤ 18
+    go : (t : Bool) → eqb (startRefusal (length p) C) 0 ≡ t → a .number ≤ 20
     go true e = omega (arith, ap (λ (x : Answer). x .number) (r .begun .0 (eqb-true (startRefusal (length p) C) 0 e) .0))
     go false e = omega (arith, start-small (length p) C, ap (λ (x : Answer). x .number) (r .begun .1 (eqb-false (startRefusal (length p) C) 0 e)))
 ran-number (Looks l) p a q r = tested (Looks l) p a q r refl

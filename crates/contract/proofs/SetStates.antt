@@ -1,6 +1,6 @@
 -- A change of one set in a buffer that holds a package: what its rows tell of the set, and the state after a drop and a put.
 -- Assumes nothing.
-use Prim.Native.Nat.{ℕ, _+_, _<_}
+use Prim.Native.Nat.{ℕ, _+_, _≤_, _<_}
 use mathlib.Core.Path.{_≡_, refl, ap, ap₂, sym, _∙_, subst}
 use mathlib.Core.Bool.{Bool, true, false, not, _||_}
 use mathlib.Core.List.{List, [], _∷_}
@@ -13,7 +13,7 @@ use Rattle.output.specs.Answers.{Answer}
 use Rattle.model.specs.Sets.{Key, held, lookup, insert, remove}
 use Rattle.model.specs.Fields.{when, first}
 use Rattle.model.specs.Package.{State, charge}
-use Rattle.model.specs.Puts.{noRoom, putIn, takenOut}
+use Rattle.model.specs.Puts.{noRoom, putRefusal, putIn, takenOut}
 use Rattle.model.specs.Calls.{Change, done, refused, changed, change, changeRefusal, changeMade}
 use Rattle.store.specs.Layout.{countOf, usedOf, slotCount}
 use Rattle.store.specs.Rows.{Row, rowSize, rowsOf}
@@ -26,7 +26,7 @@ use Rattle.contract.proofs.RowKinds.{RowLawful}
 use Rattle.contract.proofs.RowOrders.{holds-ordered}
 use Rattle.contract.proofs.RowCharges.{used-charge, count-rows}
 use Rattle.contract.proofs.Rans.{changed-refused}
-use Rattle.model.proofs.Refusals.{changed-done}
+use Rattle.model.proofs.Refusals.{all-none, none-all, changed-done}
 use Rattle.contract.proofs.SetRows.{rowFor, set-lookup, set-remove, set-insert, set-count}
 
 -- the buffer then holds the package T
@@ -67,7 +67,7 @@ module _ {E : Type 0} (K : RowKind E) (L : RowLawful K) (b : List ℕ) (S : Stat
   pub found-row : (k : Key) → lookup rowKey (setKey (K .set) k) (rowsOf b) ≡ rowFor (K .row) (lookup key k xs)
   found-row k = ap (lookup rowKey (setKey (K .set) k)) (h .lies .rows) ∙ set-lookup K L k S
 
-  held-row : (k : Key) → held (lookup rowKey (setKey (K .set) k) (rowsOf b)) ≡ held (lookup key k xs)
+  pub held-row : (k : Key) → held (lookup rowKey (setKey (K .set) k) (rowsOf b)) ≡ held (lookup key k xs)
   held-row k = ap held (found-row k) ∙ go (lookup key k xs)
     where
       go : (o : Option E) → held (rowFor (K .row) o) ≡ held o
@@ -94,34 +94,54 @@ module _ {E : Type 0} (K : RowKind E) (L : RowLawful K) (b : List ℕ) (S : Stat
           (lies-in b S h q (takenOut (K .kind) S k) (remove rowKey (setKey (K .set) k) (rowsOf b)) (m .1)
           (ap (remove rowKey (setKey (K .set) k)) (h .lies .rows) ∙ set-remove K L k S) (L .lawful .capacity S _))
 
-  -- a put of the entry e, where the call's own test gives the number own
+  pub set-rows : rowCount (K .set) (rowsOf b) ≡ length xs
+  set-rows = ap (rowCount (K .set)) (h .lies .rows) ∙ set-count K L S
+
+  -- a put of the entry e, by a limit that is not above the set's, where the call's own test gives the number own
+  module _ (e : E) (own limit : ℕ) (few : limit ≤ K .kind .limit) where
+    pub taken-is : keyTaken b (K .row e) ≡ held (lookup key (key e) xs)
+    taken-is = ap (λ (k : Key). held (lookup rowKey k (rowsOf b))) (L .keyed e) ∙ held-row (key e)
+
+    count-is : rowCount (setOf (K .row e .tag)) (rowsOf b) ≡ length xs
+    count-is = ap (λ (n : ℕ). rowCount n (rowsOf b)) (L .placed e) ∙ set-rows
+
+    -- a set that is not full leaves a slot
+    room-is : noRowRoom b (setOf (K .row e .tag)) limit (rowSize (K .row e)) ≡ noRoom limit (length xs) (K .kind .charge e) S
+    room-is =
+        ap₂ (λ (j C : ℕ). leb limit j || leb slotCount (countOf b) || ltb C (usedOf b + rowSize (K .row e))) count-is (h .lies .capacity)
+        ∙ ap₂ (λ (u s : ℕ). leb limit (length xs) || leb slotCount (countOf b) || ltb (S .capacity) (u + s)) (used-charge b S h) (L .sized e)
+        ∙ go (leb limit (length xs)) refl (ltb (S .capacity) (charge S + K .kind .charge e))
+      where
+        go : (y : Bool) → leb limit (length xs) ≡ y → (z : Bool) → (y || leb slotCount (countOf b) || z) ≡ (y || z)
+        go true f z = refl
+        go false f z =
+            let n = leb-false limit (length xs) f in
+            let l = L .slot S (h .good) (omega arith) in
+            rw (lt-leb slotCount (countOf b) (omega (arith, count-rows b S h)))
+
+    pub refusal-is : rowRefusal b own limit (K .row e)
+        ≡ first (when (held (lookup key (key e) xs)) 10 ∷ own ∷ when (noRoom limit (length xs) (K .kind .charge e) S) 15 ∷ [])
+    refusal-is = ap₂ (λ (t f : Bool). first (when t 10 ∷ own ∷ when f 15 ∷ [])) taken-is room-is
+
+  -- the buffer with the entry's row holds the package with the entry
+  pub lies-put : (e : E) (q : List ℕ) → Became b q (insert rowKey (K .row e) (rowsOf b)) → Lies q (putIn (K .kind) S e)
+  lies-put e q w =
+      lies-in b S h q (putIn (K .kind) S e) (insert rowKey (K .row e) (rowsOf b)) w (ap (insert rowKey (K .row e)) (h .lies .rows) ∙ set-insert K L e S)
+      (L .lawful .capacity S _)
+
+  -- so it does where nothing refuses the entry, and the call has no test of its own
+  pub put-lies : (e : E) → putRefusal (K .kind) S e [] ≡ 0 → (a : Answer) (q : List ℕ) → Entered b 0 (K .kind .limit) (K .row e) a q →
+      Lies q (putIn (K .kind) S e)
+  put-lies e z a q w =
+      let n = all-none _ z in
+      lies-put e q (w .made ordered (refusal-is e 0 (K .kind .limit) (omega arith) ∙ none-all _ (n .1 .0, (refl, (n .1 .1 .0, tt)))) .1)
+
   module _ (c : Change) (e : E) (own : ℕ) (a : Answer) (q : List ℕ) (w : Entered b own (K .kind .limit) (K .row e) a q) where
     abbrev full : Bool
     full = noRoom (K .kind .limit) (length xs) (K .kind .charge e) S
 
-    taken-is : keyTaken b (K .row e) ≡ held (lookup key (key e) xs)
-    taken-is = ap (λ (k : Key). held (lookup rowKey k (rowsOf b))) (L .keyed e) ∙ held-row (key e)
-
-    count-is : rowCount (setOf (K .row e .tag)) (rowsOf b) ≡ length xs
-    count-is = ap₂ rowCount (L .placed e) (h .lies .rows) ∙ set-count K L S
-
-    -- a set that is not full leaves a slot
-    room-is : noRowRoom b (setOf (K .row e .tag)) (K .kind .limit) (rowSize (K .row e)) ≡ full
-    room-is =
-        ap₂ (λ (j C : ℕ). leb (K .kind .limit) j || leb slotCount (countOf b) || ltb C (usedOf b + rowSize (K .row e))) count-is
-        (h .lies .capacity)
-        ∙ ap₂ (λ (u s : ℕ). leb (K .kind .limit) (length xs) || leb slotCount (countOf b) || ltb (S .capacity) (u + s))
-        (used-charge b S h) (L .sized e)
-        ∙ go (leb (K .kind .limit) (length xs)) refl (ltb (S .capacity) (charge S + K .kind .charge e))
-      where
-        go : (y : Bool) → leb (K .kind .limit) (length xs) ≡ y → (z : Bool) → (y || leb slotCount (countOf b) || z) ≡ (y || z)
-        go true f z = refl
-        go false f z =
-            let l = L .slot S (h .good) (leb-false (K .kind .limit) (length xs) f) in
-            rw (lt-leb slotCount (countOf b) (omega (arith, count-rows b S h)))
-
-    refusal-is : rowRefusal b own (K .kind .limit) (K .row e) ≡ first (when (held (lookup key (key e) xs)) 10 ∷ own ∷ when full 15 ∷ [])
-    refusal-is = ap₂ (λ (t f : Bool). first (when t 10 ∷ own ∷ when f 15 ∷ [])) taken-is room-is
+    row-refusal : rowRefusal b own (K .kind .limit) (K .row e) ≡ first (when (held (lookup key (key e) xs)) 10 ∷ own ∷ when full 15 ∷ [])
+    row-refusal = refusal-is e own (K .kind .limit) (omega arith)
 
     pub put-step : changeRefusal S c ≡ first (when (held (lookup key (key e) xs)) 10 ∷ own ∷ when full 15 ∷ []) →
         changeMade S c ≡ putIn (K .kind) S e → (a ≡ change S c .0) × Lies q (change S c .1)
@@ -131,11 +151,10 @@ module _ {E : Type 0} (K : RowKind E) (L : RowLawful K) (b : List ℕ) (S : Stat
         go false y =
             let z = eqb-false (rowRefusal b own (K .kind .limit) (K .row e)) 0 y in
             let m = w .stopped ordered z in
-            refused-step b S h c a q (rowRefusal b own (K .kind .limit) (K .row e)) m (ek ∙ sym refusal-is) z
+            refused-step b S h c a q (rowRefusal b own (K .kind .limit) (K .row e)) m (ek ∙ sym row-refusal) z
             (w .kept (λ x. z (sym (ap (λ (x : Answer). x .number) m) ∙ x)) .0)
         go true y =
             let z = eqb-true (rowRefusal b own (K .kind .limit) (K .row e)) 0 y in
             let m = w .made ordered z in
-            made-step b S h c a q (putIn (K .kind) S e) (m .0) (ek ∙ sym refusal-is ∙ z) em
-            (lies-in b S h q (putIn (K .kind) S e) (insert rowKey (K .row e) (rowsOf b)) (m .1)
-            (ap (insert rowKey (K .row e)) (h .lies .rows) ∙ set-insert K L e S) (L .lawful .capacity S _))
+            made-step b S h c a q (putIn (K .kind) S e) (m .0) (ek ∙ sym row-refusal ∙ z) em
+            (lies-put e q (m .1))

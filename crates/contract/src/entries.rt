@@ -36,8 +36,26 @@ pub fn locate(pkg: &[u8], w: SearchKey, f: &[u8; 256], id: &[u8]) -> usize
     count(pkg)
 }
 
+// Whether some row has the key that a row with this tag, this text and this id has.
+pub fn is_held(pkg: &[u8], t: usize, text: &[u8], id: &[u8]) -> bool
+    requires { ⌜ Shape (now pkg) × (length (now text) ≤ foldedSize) ⌝ }
+    ensures { λ r. ⌜ Taken (now (pkg .entry)) (keyIn (setOf t) (now (text .entry)) t (now (id .entry))) r ⌝ }
+{
+    let set = set_of(t);
+    let mut f = [0; 256];
+    fold_into(&mut f, text);
+    let w = SearchKey {
+        set,
+        at: 0,
+        length: text.len(),
+        tag: t,
+    };
+    let place = seek(pkg, w, &f, id);
+    place.held
+}
+
 // How many rows the set has.
-fn row_count(pkg: &[u8], set: usize) -> usize
+pub fn row_count(pkg: &[u8], set: usize) -> usize
     requires { ⌜ Shape (now pkg) × (set ≤ 3) ⌝ }
     ensures { λ r. ⌜ RowsCounted (now (pkg .entry)) set r ⌝ }
 {

@@ -57,7 +57,7 @@ module _ (p : List ℕ) (set position k : ℕ) (out : Bytes) where
     answered a n u e = record { ledger = e; kept = u; foreign = λ f. absurd (true≢false (sym (o .tested) ∙ f)); numbered = λ _. n }
 
     -- refused by the number j
-    refused-by : (j : ℕ) → 2 ≤ j → j ≤ 18 → ((S : State) → Holds p S → entryRefusal S set position k ≡ j) → EntryRan set position k out p (answer j (0 ∷ 0 ∷ []) out)
+    refused-by : (j : ℕ) → 2 ≤ j → j ≤ 20 → ((S : State) → Holds p S → entryRefusal S set position k ≡ j) → EntryRan set position k out p (answer j (0 ∷ 0 ∷ []) out)
     unfolding entryAt filled
     refused-by j l m e =
         answered _ (numbered j l m) (λ _. refl)

@@ -42,32 +42,41 @@ module _ (s i : Bytes) (k : ℕ) (ek : k ≡ sourceRefusal s) where
 pub key-fits : (s i : Bytes) (k : ℕ) → k ≡ first (sourceField s ∷ idField i ∷ []) → k ≡ 0 → length s ≤ foldedSize
 key-fits s i k ek z = omega (arith, source-size s (all-none _ (sym ek ∙ z) .0) .1)
 
--- THE FIELDS; k is the key's refusal
+-- THE FIELDS
 module _ (s i v : Bytes) (m : ℕ) (t : Bytes) where
   abbrev others : List ℕ
   others = relationshipTypeField v ∷ modeField m ∷ targetField m s t ∷ []
 
-  fields-are : first (sourceField s ∷ idField i ∷ []) ≡ 0 → relationshipFields s i v m t ≡ first others
+  -- k is the source's refusal
+  pub fields-source : (k : ℕ) → k ≡ sourceField s → (k ≡ 0 → ⊥) → k ≡ relationshipFields s i v m t
   unfolding relationshipFields
-  fields-are z = first-past (sourceField s ∷ idField i ∷ []) others z
+  fields-source k ek z = ek ∙ sym (first-met (sourceField s) (idField i ∷ others) (λ e. z (ek ∙ e)))
 
-  module _ (k : ℕ) (ek : k ≡ first (sourceField s ∷ idField i ∷ [])) where
-    pub fields-key : (k ≡ 0 → ⊥) → k ≡ relationshipFields s i v m t
+  -- it has none; x tells of the id
+  module _ (z : sourceField s ≡ 0) (x : Bool) (ex : x ≡ identifier i) where
+    sourced : relationshipFields s i v m t ≡ first (when (not x) 8 ∷ others)
     unfolding relationshipFields
-    fields-key z = ek ∙ sym (first-front (sourceField s ∷ idField i ∷ []) others (λ e. z (ek ∙ e)))
+    sourced = first-unmet (sourceField s) (idField i ∷ others) z ∙ ap (λ (b : Bool). first (when (not b) 8 ∷ others)) (sym ex)
 
-    module _ (z : k ≡ 0) (y : Bool) (ey : y ≡ packageIri v) where
+    pub fields-id : not x ≡ true → 8 ≡ relationshipFields s i v m t
+    fields-id h = sym (sourced ∙ ap (λ (b : Bool). first (when b 8 ∷ others)) h ∙ first-met 8 others (λ e. omega arith))
+
+    -- y of the type
+    module _ (hx : not x ≡ false) (y : Bool) (ey : y ≡ packageIri v) where
+      identified : relationshipFields s i v m t ≡ first (when (not y) 8 ∷ modeField m ∷ targetField m s t ∷ [])
+      identified =
+          sourced ∙ ap (λ (b : Bool). first (when b 8 ∷ others)) hx ∙ first-unmet 0 others refl
+          ∙ ap (λ (b : Bool). first (when (not b) 8 ∷ modeField m ∷ targetField m s t ∷ [])) (sym ey)
+
       pub fields-type : not y ≡ true → 8 ≡ relationshipFields s i v m t
       fields-type h =
-          sym (fields-are (sym ek ∙ z)
-          ∙ ap (λ (b : Bool). first (when (not b) 8 ∷ modeField m ∷ targetField m s t ∷ [])) (sym ey ∙ not-true y h)
+          sym (identified ∙ ap (λ (b : Bool). first (when b 8 ∷ modeField m ∷ targetField m s t ∷ [])) h
           ∙ first-met 8 (modeField m ∷ targetField m s t ∷ []) (λ e. omega arith))
 
       module _ (hy : not y ≡ false) where
         typed : relationshipFields s i v m t ≡ first (modeField m ∷ targetField m s t ∷ [])
         typed =
-            fields-are (sym ek ∙ z)
-            ∙ ap (λ (b : Bool). first (when (not b) 8 ∷ modeField m ∷ targetField m s t ∷ [])) (sym ey ∙ not-false y hy)
+            identified ∙ ap (λ (b : Bool). first (when b 8 ∷ modeField m ∷ targetField m s t ∷ [])) hy
             ∙ first-unmet 0 (modeField m ∷ targetField m s t ∷ []) refl
 
         pub fields-mode : 1 < m → 8 ≡ relationshipFields s i v m t
@@ -78,8 +87,7 @@ module _ (s i v : Bytes) (m : ℕ) (t : Bytes) where
         -- j is the mode as it was handed on
         pub fields-target : (j r : ℕ) → m ≡ j → j ≤ 1 → r ≡ targetRefusalFrom j s t → r ≡ relationshipFields s i v m t
         fields-target j r e l er =
-            let f = all-none _ (sym ek ∙ z) in
-            let n = source-size s (f .0) in
+            let n = source-size s z in
             let w : targetRefusalFrom j s t ≡ targetRefusal m s t =
             ap (λ (b : Bool). cond b (targetRefusal j s t) 4) (le-leb (length s) 255 (n .1))
             ∙ ap (λ (i : ℕ). targetRefusal i s t) (sym e) in

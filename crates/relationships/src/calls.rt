@@ -31,13 +31,13 @@ pub fn key_refusal(source: &[u8], id: &[u8]) -> u8
     8
 }
 
-// The refusal of a relationship's fields.
-fn fields_refusal(source: &[u8], id: &[u8], kind: &[u8], mode: u64, target: &[u8]) -> u8
+// The refusal of a relationship's fields where its source has none.
+pub fn own_refusal(source: &[u8], id: &[u8], kind: &[u8], mode: u64, target: &[u8]) -> u8
+    requires { ⌜ sourceField (now source) ≡ 0 ⌝ }
     ensures { λ r. ⌜ r ≡ relationshipFields (now (source .entry)) (now (id .entry)) (now (kind .entry)) mode (now (target .entry)) ⌝ }
 {
-    let k = key_refusal(source, id);
-    if k != 0 {
-        return k;
+    if !is_id(id) {
+        return 8;
     }
     if !is_package_iri(kind) {
         return 8;
@@ -49,6 +49,17 @@ fn fields_refusal(source: &[u8], id: &[u8], kind: &[u8], mode: u64, target: &[u8
         return target_refusal(1, source, target);
     }
     8
+}
+
+// The refusal of a relationship's fields.
+fn fields_refusal(source: &[u8], id: &[u8], kind: &[u8], mode: u64, target: &[u8]) -> u8
+    ensures { λ r. ⌜ r ≡ relationshipFields (now (source .entry)) (now (id .entry)) (now (kind .entry)) mode (now (target .entry)) ⌝ }
+{
+    let k = source_refusal(source);
+    if k != 0 {
+        return k;
+    }
+    own_refusal(source, id, kind, mode, target)
 }
 
 pub fn put_relationship(

@@ -39,7 +39,7 @@ fn name_refusal(name: &[u8]) -> u8
 }
 
 // The refusal of a Default's fields.
-fn default_refusal(extension: &[u8], media: &[u8]) -> u8
+pub fn default_refusal(extension: &[u8], media: &[u8]) -> u8
     ensures { λ r. ⌜ r ≡ defaultFields (now (extension .entry)) (now (media .entry)) ⌝ }
 {
     if !is_extension(extension) {
@@ -52,7 +52,7 @@ fn default_refusal(extension: &[u8], media: &[u8]) -> u8
 }
 
 // The refusal of an Override's fields.
-fn override_refusal(name: &[u8], media: &[u8]) -> u8
+pub fn override_refusal(name: &[u8], media: &[u8]) -> u8
     ensures { λ r. ⌜ r ≡ overrideFields (now (name .entry)) (now (media .entry)) ⌝ }
 {
     if !is_part_name(name) {
