@@ -1,0 +1,9 @@
+pub mod NotedRows
+pub mod NotedEntries
+pub mod Shades
+pub mod EnteredPlaces
+pub mod EnteredFields
+pub mod ShortEntries
+pub mod JudgingTurns
+pub mod AddingTurns
+pub mod ReadRuns
