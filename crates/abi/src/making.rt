@@ -20,6 +20,8 @@ use crate::fields::opc_resolve_relationship;
 use crate::fields::opc_type_origin;
 use crate::replies::Reply;
 use crate::replies::one;
+use crate::xml::opc_read_relationships;
+use crate::xml::opc_read_types;
 use crate::xml::opc_write_relationships;
 use crate::xml::opc_write_types;
 use base::moves::copy_in;
@@ -179,6 +181,25 @@ fn make_part_change(
     opc_join_part(pkg, a)
 }
 
+// The codes 22 and 23: the calls that read a stream.
+fn make_reading(
+    pkg: &mut [u8],
+    code: usize,
+    n: u64,
+    a: &[u8],
+    b: &[u8],
+    c: &[u8],
+    d: &[u8],
+) -> Reply
+    requires { ⌜ (22 ≤ code) × (code ≤ 23) ⌝ }
+    ensures { λ r. ⌜ Unlent (coded code n (now (a .entry)) (now (b .entry)) (now (c .entry)) (now (d .entry))) (now (pkg .entry)) r (now (pkg .exit)) ⌝ }
+{
+    if code == 22 {
+        return opc_read_types(pkg, a);
+    }
+    opc_read_relationships(pkg, a, b)
+}
+
 // The call with this code.
 pub(crate) fn make(
     pkg: &mut [u8],
@@ -208,5 +229,8 @@ pub(crate) fn make(
     if code <= 20 {
         return make_part_change(pkg, code, n, a, b, c, d);
     }
-    opc_type_origin(pkg, a, out)
+    if code == 21 {
+        return opc_type_origin(pkg, a, out);
+    }
+    make_reading(pkg, code, n, a, b, c, d)
 }

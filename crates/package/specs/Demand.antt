@@ -18,9 +18,9 @@ use Rattle.contract.specs.Holds.{Holds}
 use Rattle.contract.specs.Ran.{Ran, Runs}
 
 -- DEMAND 1. A call on any bytes "refuses by a number from document 01 .., and after a refusal the package and every lent output hold what
--- they held". Document 01's numbers go up to 16, document 02's so far up to 18. (That it ends, every function's theorem says.)
+-- they held". Document 01's numbers go up to 16, document 02's so far up to 20. (That it ends, every function's theorem says.)
 abbrev pub EveryCall : Type 0
-EveryCall = (c : Call) (p q : List ℕ) (a : Answer) → Ran c p a q → (a .number ≤ 18) × ((a .number ≡ 0 → ⊥) → (q ≡ p) × (a .output ≡ lent c))
+EveryCall = (c : Call) (p q : List ℕ) (a : Answer) → Ran c p a q → (a .number ≤ 20) × ((a .number ≡ 0 → ⊥) → (q ≡ p) × (a .output ≡ lent c))
 
 -- THE TEST. "packages made by these calls always pass, a buffer below 32,768 bytes or of zeros only never does"
 pub record EveryTest : Type 0 where

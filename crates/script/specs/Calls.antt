@@ -9,7 +9,7 @@ use lib.Dec.{leb}
 use lib.ListN.{length, take, drop, getD}
 use Rattle.model.specs.Sets.{Bytes}
 use Rattle.model.specs.Calls.{Find, View, Totals, PutItem, DropItem, PutDefault, DropDefault, PutOverride, DropOverride, PutRelationship}
-use Rattle.model.specs.Calls.{DropRelationship, JoinPart, ReadPart, MediaType, PartAt, ResolveRelationship, WriteTypes, WriteRelationships}
+use Rattle.model.specs.Calls.{DropRelationship, JoinPart, ReadTypes, ReadRelationships, ReadPart, MediaType, PartAt, ResolveRelationship, WriteTypes, WriteRelationships}
 use Rattle.model.specs.Calls.{Call, Start, Looks, Changes, CutPart, TypeOrigin, Prints}
 use Rattle.store.specs.Buffer.{num4}
 use Rattle.script.specs.Numbers.{num8}
@@ -41,12 +41,14 @@ calls n a b c d output =
     ∷ CutPart a n
     ∷ Changes (JoinPart a)
     ∷ TypeOrigin a output
+    ∷ Changes (ReadTypes a)
+    ∷ Changes (ReadRelationships a b)
     ∷ []
 
 abbrev pub lastCode : ℕ
-lastCode = 21
+lastCode = 23
 
--- the call with a code from 1 to 21
+-- the call with a code from 1 to 23
 unfoldable pub coded : ℕ → ℕ → Bytes → Bytes → Bytes → Bytes → Bytes → Call
 coded code n a b c d output = getD (calls n a b c d output) (code - 1) (Looks Totals)
 

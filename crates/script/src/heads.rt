@@ -9,7 +9,7 @@ ghost use Rattle.script.specs.Reading.{Headed, Read};
 // How many bytes a head has, and the greatest code of a call.
 pub const HEAD_SIZE: usize = 32;
 
-const LAST_CODE: usize = 21;
+const LAST_CODE: usize = 23;
 
 // The call's code, the length of the output that it is lent, its number, and where its four texts end.
 pub struct Head {

@@ -1,6 +1,7 @@
 -- The other worked lists, computed on the definitions.
 -- Assumes nothing.
 use Prim.Native.Nat.{ℕ, zero, suc, _≤_, _<_}
+use Prim.Native.String.{String}
 use mathlib.Core.Path.{_≡_, refl, ap, _∙_}
 use mathlib.Core.List.{List, [], _∷_, _++_}
 use native.Mathlib.Omega.{arith}
@@ -14,7 +15,7 @@ use Rattle.output.proofs.Answering.{filled-fits}
 use Rattle.model.specs.Sets.{Bytes}
 use Rattle.model.specs.Package.{empty}
 use Rattle.model.specs.Calls.{Call, Looks, Changes, CutPart, TypeOrigin, Prints, Find, View, Totals, PutItem, DropItem, PutDefault, DropDefault, PutOverride}
-use Rattle.model.specs.Calls.{DropOverride, PutRelationship, DropRelationship, JoinPart, PartAt, ReadPart, MediaType, WriteRelationships, printed}
+use Rattle.model.specs.Calls.{DropOverride, PutRelationship, DropRelationship, JoinPart, ReadTypes, ReadRelationships, PartAt, ReadPart, MediaType, WriteRelationships, printed}
 use Rattle.model.specs.Calls.{done, answers, after}
 use Rattle.model.specs.TypeOrigin.{keyed, typeOrigin}
 use Rattle.model.proofs.Origins.{keyed-fits}
@@ -67,6 +68,24 @@ counting =
 pub counted-last : (room : ℕ) → getD (answers room (empty 100) counting) 5 done ≡ answer 0 (1 ∷ 1 ∷ 11 ∷ []) []
 unfolding everything
 counted-last room = refl
+
+-- STREAMS THAT ARE READ
+abbrev pub typesStream : String → Bytes
+typesStream inside = ascii "<Types xmlns='http://schemas.openxmlformats.org/package/2006/content-types'>" ++ (ascii inside ++ ascii "</Types>")
+
+abbrev pub receiving : List Call
+receiving =
+    Changes (PutItem (ascii "/a.tif") (ascii "tile"))
+    ∷ Changes (ReadTypes (typesStream "<Default Extension='tif' ContentType='image/tiff'/>"))
+    ∷ Changes (ReadTypes (typesStream "<Default Extension='x' ContentType='y/z'/><Default Extension='TIF' ContentType='y/z'/>"))
+    ∷ Changes (ReadRelationships (ascii "/A.TIF")
+    (ascii "<Relationships xmlns='http://schemas.openxmlformats.org/package/2006/relationships'><Relationship Id='r1' Type='a:tile' Target='b.tif'/></Relationships>"))
+    ∷ Looks Totals
+    ∷ []
+
+pub received-last : (room : ℕ) → getD (answers room (empty 100) receiving) 4 done ≡ answer 0 (1 ∷ 1 ∷ 42 ∷ []) []
+unfolding everything
+received-last room = refl
 
 -- A TILE CUT, JOINED AND CUT AGAIN
 abbrev pub recutting : List Call

@@ -15,6 +15,8 @@ use parts::reading::read_part;
 use parts::totals::totals;
 use pieces::cutting::cut_part;
 use pieces::joining::join_part;
+use reading::calls::read_relationships;
+use reading::calls::read_types;
 use relationships::calls::drop_relationship;
 use relationships::calls::put_relationship;
 use relationships::resolving::Resolution;
@@ -82,6 +84,30 @@ fn counted(p: &mut [u8]) -> Totalled
     put_default(p, b"tif", b"image/tiff");
     drop_item(p, b"/A.TIF");
     drop_default(p, b"TIF");
+    totals(p)
+}
+
+// Two types streams and one of relationships are read. The second is refused, for its Default in capitals is held, and its first is not put
+// in either: the charge is that of the tile, of one Default and of the relationship.
+fn received(p: &mut [u8]) -> Totalled
+    requires { ⌜ 33000 ≤ length (now p) ⌝ }
+    ensures { λ r. ⌜ r ≡ Totalled.Of 1 1 42 ⌝ }
+{
+    start(p, 100);
+    put_item(p, b"/a.tif", b"tile");
+    read_types(
+        p,
+        b"<Types xmlns='http://schemas.openxmlformats.org/package/2006/content-types'><Default Extension='tif' ContentType='image/tiff'/></Types>",
+    );
+    read_types(
+        p,
+        b"<Types xmlns='http://schemas.openxmlformats.org/package/2006/content-types'><Default Extension='x' ContentType='y/z'/><Default Extension='TIF' ContentType='y/z'/></Types>",
+    );
+    read_relationships(
+        p,
+        b"/A.TIF",
+        b"<Relationships xmlns='http://schemas.openxmlformats.org/package/2006/relationships'><Relationship Id='r1' Type='a:tile' Target='b.tif'/></Relationships>",
+    );
     totals(p)
 }
 
@@ -198,6 +224,21 @@ fn run_writers(p: &mut [u8])
     check::expect(links[217] == b'\n');
 }
 
+fn run_readers(p: &mut [u8])
+    requires { ⌜ 33000 ≤ length (now p) ⌝ }
+{
+    let Totalled::Of {
+        items,
+        parts,
+        charge,
+    } = received(p)
+    else {
+        check::expect(false);
+        return;
+    };
+    check::expect((items == 1) & (parts == 1) & (charge == 42));
+}
+
 fn run_back() {
     let mut text = [0u8; 48];
     let mut back = [0u8; 39];
@@ -228,6 +269,7 @@ fn main() {
         return;
     };
     check::expect((items == 1) & (parts == 1) & (charge == 11));
+    run_readers(&mut p);
     run_writers(&mut p);
     run_back();
     check::expect(viewed(&mut p).len() == 5);

@@ -36,5 +36,5 @@ main-spec =
     (λ c. search needs) (λ c κs. search needs) (λ c. search needs) (λ c. search needs) (λ c κs. search needs) (λ c. search needs)
     expect-requires-2 (λ c. search needs) (λ c κs. search needs) (λ c. search needs) (λ c. search needs) (λ c κs. search needs) (λ c. search
     needs) expect-requires-4 (λ c. search needs) (λ c κs. search needs) (λ c. search needs) (λ c. search needs) (λ c κs. search needs) (λ c.
-    search needs) expect-requires-6 (λ c. search needs) (λ c κs. search needs) (λ c κs. search needs) (λ c. search needs) (λ c κs. search
-    needs) (λ c κs. eq-eqb _ 5 (ap length (c .before .viewed .ensures))) (λ c. search needs))
+    search needs) expect-requires-6 (λ c. search needs) (λ c κs. search needs) (λ c. search needs) (λ c κs. search needs) (λ c κs. search needs)
+    (λ c. search needs) (λ c κs. search needs) (λ c κs. eq-eqb _ 5 (ap length (c .before .viewed .ensures))) (λ c. search needs))
