@@ -92,7 +92,10 @@ enum opc_number {
     OPC_UNREADABLE_LINE = 16,
     /* cutting and joining */
     OPC_BAD_PIECE_COUNT = 17, /* no piece, or more than 256 */
-    OPC_WRONG_FORM = 18       /* to cut, the part is not whole; to join, it is not in pieces */
+    OPC_WRONG_FORM = 18,      /* to cut, the part is not whole; to join, it is not in pieces */
+    /* streams that are read */
+    OPC_MALFORMED_STREAM = 19, /* the stream is malformed, or has what is not accepted */
+    OPC_TOO_DEEP = 20          /* a start tag at depth 17; what stands before it is well-formed */
 };
 
 /* What a number says, as a text that is ended by a NUL; of a number that no reply has, just that. */
@@ -118,6 +121,8 @@ OPC_MUST_USE static inline const char *opc_reason(uint64_t number)
     case OPC_UNREADABLE_LINE: return "the line or call is unreadable";
     case OPC_BAD_PIECE_COUNT: return "not 1 to 256 pieces";
     case OPC_WRONG_FORM: return "the part is not whole or not in pieces";
+    case OPC_MALFORMED_STREAM: return "the stream is malformed";
+    case OPC_TOO_DEEP: return "the stream is too deep";
     default: return "no number of a reply";
     }
 }
@@ -399,6 +404,36 @@ OPC_MUST_USE opc_reply opc_write_relationships(const uint8_t *package, size_t pa
                                                uint8_t *out, size_t out_length) OPC_NOT_NULL;
 
 /*
+ * READING STREAMS. What the two calls above wrote is read back, and streams of others that are written in this part of
+ * XML 1.0:
+ * - the declaration of those streams, byte for byte at the very start, or none; one root with their namespace, which is
+ *   declared as default;
+ * - entries as empty tags or tag pairs, their attributes in any order and with either quote mark, TargetMode perhaps
+ *   missing for an internal target; in values the entities &lt; &gt; &amp; &quot; &apos;
+ * - blanks in and around tags, comments around them;
+ * - elements with prefixed names, which are passed over with all that they hold, text too, if their tags match;
+ *   `xmlns:` declarations and other prefixed attributes, which are passed over likewise. The root is at depth 1, and no
+ *   element is deeper than 16.
+ * Names are ASCII letters, digits, `_`, `.` and `-`, and a colon behind a prefix. Everything else is malformed, such as
+ * another declaration, a byte order mark, CDATA, character references, an unknown attribute or one that is repeated.
+ *
+ * All entries of a stream are put, or none: in the stream's order, each by the rule of its own put, with those before
+ * it held already. The first that is refused gives the number. A call takes up to 64 KiB of the stack.
+ */
+
+/* Puts the Defaults and Overrides of a types stream.
+   Refusals: 20 or 19, whichever the stream comes to first; of an entry 4 for the name of an Override, 7, 10, 15. */
+OPC_MUST_USE opc_reply opc_read_types(uint8_t *package, size_t package_length,
+                                      const uint8_t *stream, size_t stream_length) OPC_NOT_NULL;
+
+/* Puts the relationships of a Relationships part, with the source as it is spelled here.
+   Refusals: 4, 5 for the source; 20 or 19, whichever the stream comes to first; of an entry 8 for the id, the type or
+   the mode, 9 for the target, 5 if it leads to a reserved name, 10, 15. */
+OPC_MUST_USE opc_reply opc_read_relationships(uint8_t *package, size_t package_length,
+                                              const uint8_t *source, size_t source_length,
+                                              const uint8_t *stream, size_t stream_length) OPC_NOT_NULL;
+
+/*
  * SCRIPTS: many calls in one. A script is calls in bytes, one behind the other. Each is a head of OPC_HEAD_SIZE bytes
  * and then its four texts a, b, c and d, one behind the other. The head is eight numbers of four bytes, the low byte
  * first:
@@ -443,7 +478,9 @@ enum opc_code {
     OPC_CALL_WRITE_RELATIONSHIPS = 18,  /* a source; writes */
     OPC_CALL_CUT_PART = 19,             /* a name, n how many pieces */
     OPC_CALL_JOIN_PART = 20,            /* a name */
-    OPC_CALL_TYPE_ORIGIN = 21           /* a name; writes */
+    OPC_CALL_TYPE_ORIGIN = 21,          /* a name; writes */
+    OPC_CALL_READ_TYPES = 22,           /* a stream */
+    OPC_CALL_READ_RELATIONSHIPS = 23    /* a source, b stream */
 };
 
 /* Makes the calls of a script, each on the package as the one before left it: how many bytes of `out` were written, how

@@ -243,6 +243,20 @@ extern "C" {
         out: *mut u8,
         out_length: usize,
     ) -> Reply;
+    pub(crate) fn opc_read_types(
+        package: *mut u8,
+        package_length: usize,
+        stream: *const u8,
+        stream_length: usize,
+    ) -> Reply;
+    pub(crate) fn opc_read_relationships(
+        package: *mut u8,
+        package_length: usize,
+        source: *const u8,
+        source_length: usize,
+        stream: *const u8,
+        stream_length: usize,
+    ) -> Reply;
 }
 
 // Scripts.

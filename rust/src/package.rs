@@ -1,5 +1,5 @@
 //! A package in one buffer: items, the parts that they make, their media
-//! types, relationships, totals, XML streams.
+//! types, relationships, totals, XML streams, written and read.
 //!
 //! An *item* is a name and its bytes. A whole item is a part by itself; the
 //! pieces `/[0].piece`, `/[1].piece` .. `/[n].last.piece` of a name make one
@@ -42,6 +42,28 @@
 //! [`Refusal::OutputTooShort`] says how many bytes are needed, and nothing is
 //! written. Beside it stands a call that answers a `Vec` or a `String`, which
 //! has that length at once.
+//!
+//! # Streams that are read
+//!
+//! [`Package::read_types`] and [`Package::read_relationships`] read what
+//! [`Package::write_types`] and [`Package::write_relationships`] wrote, and
+//! streams of others that are written in this part of XML 1.0:
+//!
+//! - the declaration of those streams, byte for byte at the very start, or
+//!   none; one root with their namespace, which is declared as default;
+//! - entries as empty tags or tag pairs, their attributes in any order and with
+//!   either quote mark, `TargetMode` perhaps missing for an internal target; in
+//!   values the entities `&lt;`, `&gt;`, `&amp;`, `&quot;`, `&apos;`;
+//! - blanks in and around tags, comments around them;
+//! - elements with prefixed names, which are passed over with all that they
+//!   hold, text too, if their tags match; `xmlns:` declarations and other
+//!   prefixed attributes, which are passed over likewise. The root is at depth
+//!   1, and no element is deeper than 16.
+//!
+//! Names are ASCII letters, digits, `_`, `.` and `-`, and a colon behind a
+//! prefix. Everything else is malformed, such as another declaration, a byte
+//! order mark, CDATA, character references, an unknown attribute or one that
+//! is repeated.
 //!
 //! # Bytes that no calls made
 //!

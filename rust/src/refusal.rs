@@ -49,10 +49,15 @@ pub enum Refusal {
     BadPieceCount,
     /// 18: the part is not whole, to be cut, or not in pieces, to be joined.
     WrongForm,
+    /// 19: the stream is malformed, or has what is not accepted.
+    MalformedStream,
+    /// 20: the stream has a start tag at depth 17, the root being at depth 1;
+    /// what stands before it is well-formed.
+    TooDeep,
 }
 
 impl Refusal {
-    /// The number of the refusal, 1 to 18.
+    /// The number of the refusal, 1 to 20.
     #[must_use]
     pub fn number(self) -> u8 {
         match self {
@@ -74,6 +79,8 @@ impl Refusal {
             Refusal::UnreadableLine => 16,
             Refusal::BadPieceCount => 17,
             Refusal::WrongForm => 18,
+            Refusal::MalformedStream => 19,
+            Refusal::TooDeep => 20,
         }
     }
 
@@ -97,6 +104,8 @@ impl Refusal {
             Refusal::UnreadableLine => "the line or call is unreadable",
             Refusal::BadPieceCount => "not 1 to 256 pieces",
             Refusal::WrongForm => "the part is not whole or not in pieces",
+            Refusal::MalformedStream => "the stream is malformed",
+            Refusal::TooDeep => "the stream is too deep",
         }
     }
 
@@ -130,6 +139,8 @@ impl Refusal {
             16 => Refusal::UnreadableLine,
             17 => Refusal::BadPieceCount,
             18 => Refusal::WrongForm,
+            19 => Refusal::MalformedStream,
+            20 => Refusal::TooDeep,
             _ => return None,
         })
     }
@@ -148,9 +159,10 @@ impl fmt::Display for Refusal {
 impl core::error::Error for Refusal {}
 
 /// An error that wraps the refusal, with the feature `std`. Its kind is
-/// `InvalidData` for [`Refusal::NotAPackage`], `NotFound` for
-/// [`Refusal::NotHeld`] and [`Refusal::NoMediaType`], `AlreadyExists` for
-/// [`Refusal::Taken`], `InvalidInput` for the others.
+/// `InvalidData` for [`Refusal::NotAPackage`], [`Refusal::MalformedStream`] and
+/// [`Refusal::TooDeep`], `NotFound` for [`Refusal::NotHeld`] and
+/// [`Refusal::NoMediaType`], `AlreadyExists` for [`Refusal::Taken`],
+/// `InvalidInput` for the others.
 ///
 /// ```
 /// use std::io;
@@ -166,7 +178,9 @@ impl From<Refusal> for std::io::Error {
     fn from(refusal: Refusal) -> std::io::Error {
         use std::io::{Error, ErrorKind};
         let kind = match refusal {
-            Refusal::NotAPackage => ErrorKind::InvalidData,
+            Refusal::NotAPackage | Refusal::MalformedStream | Refusal::TooDeep => {
+                ErrorKind::InvalidData
+            }
             Refusal::NotHeld | Refusal::NoMediaType => ErrorKind::NotFound,
             Refusal::Taken => ErrorKind::AlreadyExists,
             _ => ErrorKind::InvalidInput,
@@ -193,7 +207,7 @@ impl Reply {
             Some(refusal) => Err(refusal),
             None => {
                 let known = self.number == 0;
-                assert!(known, "the archive knows only refusals 1 to 18");
+                assert!(known, "the archive knows only refusals 1 to 20");
                 assert_eq!(self.count, N as u64, "values in the archive's answer");
                 Ok(core::array::from_fn(|i| values[i] as usize))
             }
@@ -219,14 +233,14 @@ mod tests {
 
     #[test]
     fn numbers_go_forth_and_back() {
-        for number in 1..=18 {
+        for number in 1..=20 {
             let refusal = Refusal::from_number(number).unwrap();
             assert_eq!(u64::from(refusal.number()), number);
             let text = refusal.to_string();
             assert!(text.ends_with(&format!("(refusal {number})")), "{text}");
         }
         assert_eq!(Refusal::from_number(0), None);
-        assert_eq!(Refusal::from_number(19), None);
+        assert_eq!(Refusal::from_number(21), None);
         assert_eq!(Refusal::from_number((1 << 32) + 1), None);
     }
 

@@ -22,7 +22,7 @@ const OUTPUT: usize = 6_000_000;
 fn number(buffer: &[u8], package: &mut [u8], call: Call, out: &mut [u8]) -> u8 {
     let answer = call(Package::open_mut(package), out);
     let number = answer.map_or_else(|refusal| refusal.number(), |()| 0);
-    assert!(number <= 18 && number != 1, "{number}");
+    assert!(number <= 20 && number != 1, "{number}");
     if number == 0 {
         package.copy_from_slice(buffer);
         out.fill(7);

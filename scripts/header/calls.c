@@ -185,8 +185,8 @@ static int totals(void)
 
 int main(void)
 {
-    int (*const checks[])(void) = {judgements, names,         iris,   items,         cuts,          defaults,
-                                   overrides,  relationships, totals, check_scripts, check_entries, check_limits};
+    int (*const checks[])(void) = {judgements, names,         iris,          items,         cuts,         defaults, overrides,
+                                   relationships, totals, check_scripts, check_entries, check_reading, check_limits};
 
     CHECK(sizeof(opc_reply) == OPC_REPLY_SIZE);
     for (size_t i = 0; i < sizeof checks / sizeof *checks; i++) {

@@ -38,6 +38,7 @@ static inline int wrote(opc_reply reply, const uint8_t *out, const char *text)
 /* The subjects of the other files. Each is 0 if all is right. */
 int check_scripts(void);
 int check_entries(void);
+int check_reading(void);
 int check_limits(void);
 
 #endif

@@ -12,7 +12,11 @@
 #define OVERRIDE_LINE "<Override PartName=\"\" ContentType=\"\"/>\n"
 #define RELATIONSHIP_LINE "<Relationship Id=\"\" Type=\"\" Target=\"\" TargetMode=\"External\"/>\n"
 
+#define TYPES_LENGTH (OPC_TYPES_STREAM_MAX - 4 * (3 * OPC_DEFAULTS_MAX + 4 * OPC_OVERRIDES_MAX))
+#define RELATIONSHIPS_LENGTH (OPC_RELATIONSHIPS_STREAM_MAX - 4 * 2 * OPC_RELATIONSHIPS_MAX)
+
 static uint8_t package[OPC_BUFFER_LENGTH(CAPACITY)];
+static uint8_t other[OPC_BUFFER_LENGTH(CAPACITY)];
 static uint8_t stream[OPC_RELATIONSHIPS_STREAM_MAX];
 static uint8_t longest[OPC_PACK_IRI_MAX];
 
@@ -104,7 +108,8 @@ static int iris(void)
     return 0;
 }
 
-/* All sets but the items full of longest values, of `&` where these may be: both streams have the length that is reckoned. */
+/* All sets but the items full of longest values, of `&` where these may be: both streams have the length that is reckoned,
+   and another package reads as much from them. */
 static int streams(void)
 {
     const size_t length = sizeof package;
@@ -129,10 +134,13 @@ static int streams(void)
                                         filled(target, "", '&', OPC_IRI_MAX), OPC_IRI_MAX)));
     }
     /* four bytes less for each byte that is no `&`: two and one of a Default, three and one of an Override, two of a type */
-    CHECK(is(opc_write_types(package, length, stream, OPC_TYPES_STREAM_MAX), 0, 1,
-             OPC_TYPES_STREAM_MAX - 4 * (3 * OPC_DEFAULTS_MAX + 4 * OPC_OVERRIDES_MAX), 0, 0));
+    CHECK(is(opc_write_types(package, length, stream, OPC_TYPES_STREAM_MAX), 0, 1, TYPES_LENGTH, 0, 0));
+    CHECK(done(opc_start(other, sizeof other, CAPACITY)));
+    CHECK(done(opc_read_types(other, sizeof other, stream, TYPES_LENGTH)));
     CHECK(is(opc_write_relationships(package, length, TEXT("/"), stream, OPC_RELATIONSHIPS_STREAM_MAX), 0, 1,
-             OPC_RELATIONSHIPS_STREAM_MAX - 4 * 2 * OPC_RELATIONSHIPS_MAX, 0, 0));
+             RELATIONSHIPS_LENGTH, 0, 0));
+    CHECK(done(opc_read_relationships(other, sizeof other, TEXT("/"), stream, RELATIONSHIPS_LENGTH)));
+    CHECK(opc_totals(other, sizeof other).third == opc_totals(package, length).third);
     return 0;
 }
 
@@ -154,14 +162,14 @@ static int reasons(void)
 {
     const char *other = opc_reason(UINT64_MAX);
 
-    for (uint64_t i = 0; i <= OPC_WRONG_FORM; i++) {
+    for (uint64_t i = 0; i <= OPC_TOO_DEEP; i++) {
         CHECK(strlen(opc_reason(i)) > 0 && strcmp(opc_reason(i), other) != 0);
         for (uint64_t k = 0; k < i; k++) {
             CHECK(strcmp(opc_reason(i), opc_reason(k)) != 0);
         }
     }
     CHECK(strlen(other) > 0);
-    CHECK(strcmp(opc_reason(OPC_WRONG_FORM + 1), other) == 0);
+    CHECK(strcmp(opc_reason(OPC_TOO_DEEP + 1), other) == 0);
     CHECK(strcmp(opc_reason((uint64_t)1 << 32), other) == 0);
     return 0;
 }

@@ -1,6 +1,8 @@
 /* Scripts, called from C. */
 #include "check.h"
 
+#define TYPES "<Types xmlns='http://schemas.openxmlformats.org/package/2006/content-types'/>"
+
 static uint8_t package[OPC_BUFFER_LENGTH(1000)];
 static uint8_t script[1000];
 
@@ -39,7 +41,7 @@ static opc_reply reply_at(const uint8_t *place)
 /* A package with two pieces. */
 int check_scripts(void)
 {
-    uint8_t out[500];
+    uint8_t out[600];
     size_t length = 0, first;
 
     CHECK(done(opc_start(package, sizeof package, 1000)));
@@ -60,10 +62,12 @@ int check_scripts(void)
     length = put_call(length, OPC_CALL_DROP_OVERRIDE, 0, "/t5", "", 0);
     length = put_call(length, OPC_CALL_DROP_ITEM, 0, "/t5", "", 0);
     length = put_call(length, OPC_CALL_TOTALS, 0, "", "", 0);
+    length = put_call(length, OPC_CALL_READ_TYPES, 0, TYPES, "", 0);
+    length = put_call(length, OPC_CALL_READ_RELATIONSHIPS, 0, "/", "<Relationships/>", 0);
     CHECK(first == OPC_HEAD_SIZE + 7);
 
     memset(out, '.', sizeof out);
-    CHECK(is(opc_run(package, sizeof package, script, length, out, sizeof out), 0, 3, 459, length, 11));
+    CHECK(is(opc_run(package, sizeof package, script, length, out, sizeof out), 0, 3, 539, length, 13));
     CHECK(is(reply_at(out), 0, 1, 0, 0, 0));
     CHECK(is(reply_at(out + 40), OPC_TAKEN, 1, 0, 0, 0) && memcmp(out + 80, "..", 2) == 0);
     CHECK(is(reply_at(out + 82), 0, 1, 3, 0, 0) && memcmp(out + 122, "ile.....", 8) == 0);
@@ -75,12 +79,14 @@ int check_scripts(void)
     CHECK(is(reply_at(out + 339), 0, 1, 0, 0, 0));
     CHECK(is(reply_at(out + 379), 0, 1, 0, 0, 0));
     CHECK(is(reply_at(out + 419), 0, 3, 2, 1, 50));
-    CHECK(out[459] == '.' && out[499] == '.');
+    CHECK(is(reply_at(out + 459), 0, 1, 0, 0, 0));
+    CHECK(is(reply_at(out + 499), OPC_MALFORMED_STREAM, 1, 0, 0, 0));
+    CHECK(out[539] == '.' && out[599] == '.');
 
     /* no room for the second answer; then what is no call in its place */
     CHECK(is(opc_run(package, sizeof package, script, length, out, 81), 0, 3, 40, first, 1));
     CHECK(is(opc_drop_item(package, sizeof package, TEXT("/t5")), 0, 1, 0, 0, 0));
-    put4(first, OPC_CALL_TYPE_ORIGIN + 1);
+    put4(first, OPC_CALL_READ_RELATIONSHIPS + 1);
     CHECK(is(opc_run(package, sizeof package, script, length, out, sizeof out), 0, 3, 80, first, 1));
     CHECK(is(reply_at(out + 40), OPC_UNREADABLE_LINE, 1, 0, 0, 0));
     return 0;

@@ -53,7 +53,7 @@ pub struct Part<'a> {
 }
 
 /// The state of one package. Keys are folded; entries keep their spelling.
-#[derive(Default)]
+#[derive(Clone, Default)]
 pub struct Ledger {
     capacity: u64,
     charge: u64,

@@ -60,7 +60,7 @@ impl<'a> Call<'a> {
         for (text, length) in texts.iter_mut().zip(four) {
             (*text, rest) = rest.split_at_checked(length as usize)?;
         }
-        (1..=21).contains(&code).then_some(Call {
+        (1..=23).contains(&code).then_some(Call {
             code,
             lent: lent as usize,
             size: script.len() - rest.len(),
@@ -118,6 +118,8 @@ pub fn make(
         21 => ledger
             .type_origin(a, out)
             .map(|origin| [origin.kind, origin.length as u64, 0]),
+        22 => ledger.read_types(a).map(done),
+        23 => ledger.read_relationships(a, b).map(done),
         _ => Err(Refusal::UnreadableLine),
     }
 }
@@ -152,6 +154,7 @@ fn reply_bytes(count: u64, values: Result<[u64; 3], Refusal>) -> [u8; REPLY] {
 #[cfg(test)]
 mod tests {
     use super::*;
+    use crate::examples::streams::{DEFAULT, RELATIONSHIP};
 
     /// A call with two texts.
     fn call(code: u32, lent: u32, a: &str, b: &str, number: u64) -> Vec<u8> {
@@ -239,9 +242,42 @@ mod tests {
     }
 
     #[test]
+    fn streams() {
+        let types = DEFAULT.stream(b"$<$e$>");
+        let links = RELATIONSHIP.stream(b"$<$e$>");
+        let [types, links] = [types, links].map(|stream| String::from_utf8(stream).unwrap());
+        let deep = types.replace("/>", &"><p:a>".repeat(15));
+        let script = [
+            call(1, 0, "", "", 100),
+            call(22, 2, &types, "", 7),
+            call(22, 0, &types, &types, 0),
+            call(22, 0, &links, "", 0),
+            call(22, 0, &deep, "", 0),
+            call(23, 0, "", &links, 0),
+            call(23, 0, "/", &links, 0),
+            call(23, 0, "/", &types, 0),
+            call(12, 0, "", "", 0),
+        ]
+        .concat();
+        let mut out = [b'.'; 400];
+        let ran = run(&mut Ledger::default(), 40_000, &script, &mut out);
+        assert_eq!(ran, (9 * REPLY + 2, script.len(), 9));
+        assert_eq!(
+            (numbers(&out[40..]), &out[80..82]),
+            (vec![0, 1, 0, 0, 0], &b".."[..])
+        );
+        let rest: Vec<u64> = (82..362)
+            .step_by(REPLY)
+            .map(|at| numbers(&out[at..])[0])
+            .collect();
+        assert_eq!(rest, [10, 19, 20, 4, 0, 19, 0]);
+        assert_eq!(numbers(&out[322..]), [0, 3, 0, 0, 4 + 1 + 1 + 3 + 1]);
+    }
+
+    #[test]
     fn ends() {
         let start = call(1, 5, "", "", 100);
-        let wrong = call(22, 100, "", "", 0);
+        let wrong = call(24, 100, "", "", 0);
         let script = [&start[..], &wrong, &start].concat();
         let mut out = [7; 200];
         let mut ran = |script: &[u8], length| {

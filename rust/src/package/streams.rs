@@ -1,8 +1,8 @@
-//! The XML streams.
+//! The XML streams, written and read.
 
 use super::{Package, RELATIONSHIPS_STREAM_MAX, TYPES_STREAM_MAX};
 use crate::ffi;
-use crate::lent::{write, write_two};
+use crate::lent::{change, change_two, write, write_two};
 use crate::owned;
 use crate::Refusal;
 use alloc::string::String;
@@ -116,5 +116,90 @@ impl Package {
         owned::to_string(RELATIONSHIPS_STREAM_MAX, |out| {
             self.write_relationships(source, out)
         })
+    }
+
+    /// Reads a Media Types stream and holds all its Defaults and Overrides, or
+    /// none. Each is put in the stream's order, as
+    /// [`put_default`](Package::put_default) and
+    /// [`put_override`](Package::put_override) do; the first that is refused
+    /// tells why. Which streams are accepted is told
+    /// [above](crate::package#streams-that-are-read).
+    ///
+    /// # Errors
+    ///
+    /// [`Refusal::NotAPackage`]; [`Refusal::TooDeep`] or
+    /// [`Refusal::MalformedStream`], whichever the stream comes to first; then
+    /// those of the first entry that is refused: [`Refusal::NotAPartName`] for
+    /// the name of an Override, [`Refusal::BadType`], [`Refusal::Taken`],
+    /// [`Refusal::Full`].
+    ///
+    /// ```
+    /// use zombirels::package::PackageBuf;
+    /// use zombirels::Refusal;
+    /// let stream = r#"<Types xmlns="http://schemas.openxmlformats.org/package/2006/content-types">
+    ///     <Override ContentType='text/xml' PartName='/R&amp;D.xml'></Override>
+    ///     <!-- for all tiles --> <Default Extension="tiff" ContentType="image/tiff"/>
+    /// </Types>"#;
+    ///
+    /// let mut slide = PackageBuf::start(100)?;
+    /// slide.read_types(stream)?;
+    /// slide.put_item("/t3.TIFF", "tile")?;
+    /// assert_eq!(slide.media_type_to_string("/t3.TIFF")?, "image/tiff");
+    /// assert_eq!(slide.overrides()?.next().unwrap().name, "/R&D.xml");
+    ///
+    /// assert_eq!(slide.read_types(stream), Err(Refusal::Taken));
+    /// slide.drop_override("/R&D.xml")?;
+    /// assert_eq!(slide.read_types(stream), Err(Refusal::Taken));
+    /// assert_eq!(slide.overrides()?.len(), 0);
+    /// assert_eq!(slide.read_types("<Types/>"), Err(Refusal::MalformedStream));
+    /// # Ok::<(), Refusal>(())
+    /// ```
+    pub fn read_types(&mut self, stream: impl AsRef<[u8]>) -> Result<(), Refusal> {
+        change(ffi::opc_read_types, &mut self.0, stream.as_ref()).done()
+    }
+
+    /// Reads the Relationships part of a source and holds all its
+    /// relationships, or none. Each is put in the stream's order, as
+    /// [`put_relationship`](Package::put_relationship) does, with the source as
+    /// it is spelled here; the first that is refused tells why. Which streams
+    /// are accepted is told [above](crate::package#streams-that-are-read).
+    ///
+    /// # Errors
+    ///
+    /// [`Refusal::NotAPackage`]; [`Refusal::NotAPartName`] or
+    /// [`Refusal::Reserved`] for the source; [`Refusal::TooDeep`] or
+    /// [`Refusal::MalformedStream`], whichever the stream comes to first; then
+    /// those of the first entry that is refused:
+    /// [`Refusal::BadRelationshipField`] for the id, the type or the mode,
+    /// [`Refusal::BadTarget`], [`Refusal::Reserved`], [`Refusal::Taken`],
+    /// [`Refusal::Full`].
+    ///
+    /// ```
+    /// use zombirels::package::{Mode, PackageBuf};
+    /// use zombirels::Refusal;
+    /// let mut slide = PackageBuf::start(200)?;
+    /// slide.put_relationship("/t3", "m1", "a:mask", Mode::Internal, "m")?;
+    /// slide.put_relationship("/t3", "m2", "a:page", Mode::External, "b:c?d&e")?;
+    /// let stream = slide.write_relationships_to_string("/t3")?;
+    ///
+    /// let mut other = PackageBuf::start(200)?;
+    /// other.read_relationships("/T3", &stream)?;
+    /// let links: Vec<_> = other.relationships_of("/t3")?.collect();
+    /// assert_eq!((&links[0].source[..], &links[0].target[..]), ("/T3", "m"));
+    /// assert_eq!((links[1].mode, &links[1].target[..]), (Mode::External, "b:c?d&e"));
+    /// assert_eq!(other.write_relationships_to_string("/t3")?, stream);
+    ///
+    /// let none = other.read_relationships("/t4", stream.replace("External", "?"));
+    /// assert_eq!(none, Err(Refusal::BadRelationshipField));
+    /// assert_eq!(other.relationships()?.len(), 2);
+    /// # Ok::<(), Refusal>(())
+    /// ```
+    pub fn read_relationships(
+        &mut self,
+        source: impl AsRef<[u8]>,
+        stream: impl AsRef<[u8]>,
+    ) -> Result<(), Refusal> {
+        let (source, stream) = (source.as_ref(), stream.as_ref());
+        change_two(ffi::opc_read_relationships, &mut self.0, source, stream).done()
     }
 }

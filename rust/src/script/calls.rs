@@ -201,4 +201,41 @@ impl Script {
             length,
         )
     }
+
+    /// [`Package::read_types`].
+    ///
+    /// ```
+    /// use zombirels::package::PackageBuf;
+    /// use zombirels::script::Script;
+    /// use zombirels::Refusal;
+    /// let mut slide = PackageBuf::start(100)?;
+    /// slide.put_default("tiff", "image/tiff")?;
+    /// let stream = slide.write_types_to_string()?;
+    /// let mut script = Script::new();
+    /// script.start(100).read_types(&stream).read_types(&stream).totals();
+    ///
+    /// let run = slide.run_to_buf(&script);
+    /// let answers: Vec<_> = run.answers().collect();
+    /// assert_eq!(answers[1].done(), Ok(()));
+    /// assert_eq!(answers[2].done(), Err(Refusal::Taken));
+    /// assert_eq!(answers[3].totals()?.charge, 14);
+    /// # Ok::<(), Refusal>(())
+    /// ```
+    pub fn read_types(&mut self, stream: impl AsRef<[u8]>) -> &mut Script {
+        self.call(Code::ReadTypes, [stream.as_ref(), b"", b"", b""], 0, 0)
+    }
+
+    /// [`Package::read_relationships`].
+    pub fn read_relationships(
+        &mut self,
+        source: impl AsRef<[u8]>,
+        stream: impl AsRef<[u8]>,
+    ) -> &mut Script {
+        self.call(
+            Code::ReadRelationships,
+            [source.as_ref(), stream.as_ref(), b"", b""],
+            0,
+            0,
+        )
+    }
 }

@@ -3,7 +3,7 @@
 #[cfg(doc)]
 use super::Script;
 
-/// The calls of a script, by their codes from 1 to 21. Each is that of one
+/// The calls of a script, by their codes from 1 to 23. Each is that of one
 /// method.
 #[derive(Clone, Copy, Debug, PartialEq, Eq, PartialOrd, Ord, Hash)]
 pub enum Code {
@@ -49,11 +49,15 @@ pub enum Code {
     JoinPart,
     /// [`Script::type_origin`]
     TypeOrigin,
+    /// [`Script::read_types`]
+    ReadTypes,
+    /// [`Script::read_relationships`]
+    ReadRelationships,
 }
 
 impl Code {
     /// All codes, from 1 on.
-    pub const ALL: [Code; 21] = [
+    pub const ALL: [Code; 23] = [
         Code::Start,
         Code::PutItem,
         Code::DropItem,
@@ -75,9 +79,11 @@ impl Code {
         Code::CutPart,
         Code::JoinPart,
         Code::TypeOrigin,
+        Code::ReadTypes,
+        Code::ReadRelationships,
     ];
 
-    /// The number of the code, 1 to 21.
+    /// The number of the code, 1 to 23.
     #[must_use]
     pub fn number(self) -> u32 {
         self as u32

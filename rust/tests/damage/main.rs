@@ -10,11 +10,13 @@ mod entries;
 mod none;
 mod origins;
 mod random;
+mod readings;
 #[path = "../support/mod.rs"]
 mod support;
 
 use entries::SeenEntries;
 use random::{cut_or_join, drop_field, name, put_field, random_call};
+use readings::{RELATIONSHIPS_NUMBERS, TYPES_NUMBERS};
 use std::collections::BTreeMap;
 use std::sync::atomic::{AtomicUsize, Ordering};
 use std::sync::Once;
@@ -59,7 +61,7 @@ fn watch() {
 struct Seen {
     calls: usize,
     numbers: BTreeMap<u64, usize>,
-    /// How often each number came for cuts, joins and type origins.
+    /// How often each number came for cuts, joins, type origins and readings.
     later: BTreeMap<(Code, u64), usize>,
     /// How often a type came from each kind of entry.
     origins: BTreeMap<usize, usize>,
@@ -91,7 +93,10 @@ impl Seen {
     fn print(&self, test: &str) {
         let (calls, numbers) = (self.calls, &self.numbers);
         println!("{test}: {calls} calls, by number: {numbers:?}");
-        println!("{test}: cuts, joins and type origins: {:?}", self.later);
+        println!(
+            "{test}: cuts, joins, type origins, readings: {:?}",
+            self.later
+        );
         println!("{test}: type origins by kind: {:?}", self.origins);
         self.entries.print(test);
     }
@@ -113,6 +118,8 @@ fn make(random: &mut Random, seen: &mut Seen, buffer: &mut [u8], call: &Call) {
     match call.code {
         Code::ViewItem => assert!(answer.is_ok_and(|[length, ..]| length <= before.len())),
         Code::TypeOrigin => assert!(ORIGIN_NUMBERS.contains(&number), "{number}"),
+        Code::ReadTypes => assert!(TYPES_NUMBERS.contains(&number), "{number}"),
+        Code::ReadRelationships => assert!(RELATIONSHIPS_NUMBERS.contains(&number), "{number}"),
         _ => {}
     }
     // what an accepted call didn't write is kept

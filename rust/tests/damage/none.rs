@@ -2,12 +2,21 @@
 
 use crate::support::{self, Random};
 use crate::{real_package, watch, CALLS, ENDED, HEADER, MARK};
+use reference::examples::streams::{DEFAULT, RELATIONSHIP};
 use std::sync::atomic::Ordering;
 use zombirels::package::{Mode, Package, Totals, CAPACITY_MAX, OVERHEAD};
 use zombirels::Refusal;
 
 /// How many calls are made on each buffer.
-const NONE_CALLS: usize = 28;
+const NONE_CALLS: usize = 32;
+
+fn types() -> Vec<u8> {
+    DEFAULT.stream(b"$<$e$>")
+}
+
+fn links() -> Vec<u8> {
+    RELATIONSHIP.stream(b"$<$e$>")
+}
 
 /// Each of these calls on the buffer gives 1, and the view is empty.
 fn is_no_package(buffer: &mut [u8]) {
@@ -39,6 +48,10 @@ fn is_no_package(buffer: &mut [u8]) {
     assert_eq!(package.type_origin(b"no name", &mut []), Err(one));
     assert_eq!(package.write_types(&mut out), Err(one));
     assert_eq!(package.write_relationships(b"no", &mut out), Err(one));
+    assert_eq!(package.read_types(types()), Err(one));
+    assert_eq!(package.read_types(b"no stream"), Err(one));
+    assert_eq!(package.read_relationships(b"/", links()), Err(one));
+    assert_eq!(package.read_relationships(b"no", b"no stream"), Err(one));
     let put = package.put_relationship(b"/", b"r", b"a:", Mode::Internal, b"b");
     assert_eq!(put, Err(one));
     assert_eq!(package.drop_relationship(b"/", b"r"), Err(one));

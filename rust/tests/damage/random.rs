@@ -2,7 +2,7 @@
 
 use crate::support::calls::Call;
 use crate::support::types::near_media_type;
-use crate::support::Random;
+use crate::support::{streams, Random};
 use zombirels::script::Code;
 
 #[rustfmt::skip]
@@ -72,7 +72,7 @@ pub fn cut_or_join(random: &mut Random) -> Call {
 pub fn random_call(random: &mut Random) -> Call {
     let length = random.pick(&[0, 1, 2, 7, 255, 600]);
     let (name, other) = (name(random), name(random));
-    match random.below(37) {
+    match random.below(41) {
         0 => {
             let size = random.below(400);
             Call::new(Code::PutItem, &[&name, &random.bytes(size)])
@@ -104,6 +104,11 @@ pub fn random_call(random: &mut Random) -> Call {
         25..=27 => Call::new(Code::WriteRelationships, &[&source(random)]).with_output(length * 12),
         28..=31 => cut_or_join(random),
         32..=34 => Call::new(Code::TypeOrigin, &[&name]).with_output(length),
+        35 | 36 => Call::new(Code::ReadTypes, &[&streams::types(random, 6)]),
+        37 | 38 => {
+            let (source, stream) = (source(random), streams::relationships(random, 6));
+            Call::new(Code::ReadRelationships, &[&source, &stream])
+        }
         _ => Call::new(Code::Totals, &[]),
     }
 }

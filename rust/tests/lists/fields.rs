@@ -23,7 +23,7 @@ impl List {
         }
     }
 
-    fn extension(&self, random: &mut Random) -> Vec<u8> {
+    pub fn extension(&self, random: &mut Random) -> Vec<u8> {
         match self.style {
             Style::FullFields if !random.once_in(10) => {
                 format!("Ext{}", self.extensions.len() % 100).into_bytes()
@@ -33,7 +33,7 @@ impl List {
         }
     }
 
-    fn media_type(&self, random: &mut Random, room: usize) -> Vec<u8> {
+    pub fn media_type(&self, random: &mut Random, room: usize) -> Vec<u8> {
         if random.once_in(10) {
             let length = self.fitting(random, room, 3, 127);
             return long_media_type(random, length);
@@ -41,7 +41,7 @@ impl List {
         near_media_type(random)
     }
 
-    fn override_name(&self, random: &mut Random) -> Vec<u8> {
+    pub fn override_name(&self, random: &mut Random) -> Vec<u8> {
         match self.style {
             Style::FullFields if !random.once_in(10) => {
                 let which = self.overrides.len() % self.prefixes.len();
@@ -51,7 +51,7 @@ impl List {
         }
     }
 
-    fn source(&self, random: &mut Random) -> Vec<u8> {
+    pub fn source(&self, random: &mut Random) -> Vec<u8> {
         match random.below(24) {
             0..=5 => b"/".to_vec(),
             6 => random.pick(RESERVED).to_vec(),
@@ -59,7 +59,7 @@ impl List {
         }
     }
 
-    fn id(&self, random: &mut Random) -> Vec<u8> {
+    pub fn id(&self, random: &mut Random) -> Vec<u8> {
         match self.style {
             Style::FullFields if !random.once_in(40) => {
                 format!("r{}", self.relationships.len() % 300).into_bytes()
@@ -90,7 +90,7 @@ impl List {
         Call::new(Code::PutRelationship, &texts).with_number(mode)
     }
 
-    fn target(&self, random: &mut Random, room: usize) -> Vec<u8> {
+    pub fn target(&self, random: &mut Random, room: usize) -> Vec<u8> {
         match random.below(10) {
             0 => filled(b"t", b't', self.fitting(random, room, 1, 255)),
             1 => random.joined(TARGETS, 4),

@@ -2,11 +2,13 @@
 
 use crate::origins::typed_name;
 use crate::support::calls::Call;
+use crate::support::pieces::piece;
 use crate::support::Random;
 use crate::texts::{beginning, forked_name, SEGMENTS};
 use reference::ledger::Ledger;
 use std::collections::VecDeque;
 use zombirels::package::CAPACITY_MAX;
+use zombirels::script::Code;
 
 /// What the names and sizes of a list are like.
 #[derive(Clone, Copy, Debug, PartialEq, Eq)]
@@ -29,6 +31,8 @@ pub enum Style {
     Origins,
     /// Types or relationships without end, so that their sets get full.
     FullFields,
+    /// Types and relationships read from streams.
+    Readings,
 }
 
 /// One list: the names to choose from, the capacity, what is held by now.
@@ -48,6 +52,8 @@ pub struct List {
     pub relationships: Vec<(Vec<u8>, Vec<u8>)>,
     /// Whether the list fills the relationships, or else the types.
     pub relates: bool,
+    /// Some streams that were written, and by which calls.
+    pub written: Vec<(Code, Vec<u8>)>,
     /// The calls that come next.
     pub planned: VecDeque<Call>,
 }
@@ -64,6 +70,7 @@ impl List {
             Style::Fields => 1 + random.below(8),
             Style::Origins => 2 + random.below(8),
             Style::FullFields => 70 + random.below(40),
+            Style::Readings => 2 + random.below(8),
         };
         let mut list = List {
             style,
@@ -76,6 +83,7 @@ impl List {
             overrides: Vec::new(),
             relationships: Vec::new(),
             relates: random.once_in(2),
+            written: Vec::new(),
             planned: VecDeque::new(),
         };
         list.lent = match random.below(120) {
@@ -98,28 +106,67 @@ impl List {
         if random.once_in(40) {
             return self.stream_call(random);
         }
-        // of a hundred calls: on fields, cuts and joins, type origins
-        let (fields, cuts, origins) = match self.style {
-            Style::Full => (3, 2, 1),
-            Style::Pieces => (8, 8, 2),
-            Style::Crowded | Style::Tight => (15, 8, 4),
-            Style::Tiles => (15, 4, 2),
-            Style::Cuts => (12, 35, 4),
-            Style::Fields => (70, 3, 8),
-            Style::Origins => (35, 2, 30),
-            Style::FullFields => (96, 1, 1),
+        // of a hundred calls: on fields, cuts and joins, type origins, readings
+        let (fields, cuts, origins, readings) = match self.style {
+            Style::Full => (3, 2, 1, 1),
+            Style::Pieces => (8, 8, 2, 1),
+            Style::Crowded | Style::Tight => (15, 8, 4, 3),
+            Style::Tiles => (15, 4, 2, 2),
+            Style::Cuts => (12, 35, 4, 2),
+            Style::Fields => (65, 3, 8, 5),
+            Style::Origins => (32, 2, 30, 3),
+            Style::FullFields => (95, 1, 1, 1),
+            Style::Readings => (35, 2, 3, 25),
         };
         let room = ledger.room() as usize;
+        let [fields, cuts, origins, readings] = [
+            fields,
+            fields + cuts,
+            fields + cuts + origins,
+            fields + cuts + origins + readings,
+        ];
         match random.below(100) {
             n if n < fields => self.field_call(random, room),
-            n if n < fields + cuts => self.cut_call(random, ledger),
-            n if n < fields + cuts + origins => self.origin_call(random, ledger),
+            n if n < cuts => self.cut_call(random, ledger),
+            n if n < origins => self.origin_call(random, ledger),
+            n if n < readings => self.reading_call(random, ledger),
             _ => self.item_call(random, room),
         }
     }
 
+    /// Notes what an accepted call put.
+    pub fn note(&mut self, call: Call) {
+        if matches!(call.code, Code::ReadTypes | Code::ReadRelationships) {
+            return self.note_read(&call);
+        }
+        let [first, second, ..] = call.texts;
+        match call.code {
+            Code::PutItem => self.held.push(first),
+            Code::PutDefault => self.extensions.push(first),
+            Code::PutOverride => self.overrides.push(first),
+            Code::PutRelationship => self.relationships.push((first, second)),
+            Code::Start => self.restart(call.number),
+            Code::CutPart => {
+                let count = call.number as usize;
+                let pieces = [0, count / 2, count - 1].map(|k| piece(&first, k, count));
+                self.held.extend(pieces);
+            }
+            Code::JoinPart => self.held.push(first),
+            _ => {}
+        }
+    }
+
+    /// Notes a stream that was written, in place of an older one if there are
+    /// many.
+    pub fn note_written(&mut self, random: &mut Random, code: Code, stream: Vec<u8>) {
+        if self.written.len() == 4 {
+            self.written.swap_remove(random.below(4));
+        }
+        self.written.push((code, stream));
+    }
+
     /// Empties the list's account, as a start does with the package.
-    pub fn restart(&mut self, capacity: u64) {
+    fn restart(&mut self, capacity: u64) {
         self.held.clear();
         self.extensions.clear();
         self.overrides.clear();
@@ -138,6 +185,7 @@ fn random_capacity(random: &mut Random, style: Style) -> u64 {
         Style::Cuts => random.pick(&[400, 5000, 20_000]) + random.below(3000),
         Style::Fields | Style::Origins => random.below(8000),
         Style::FullFields => 40_000,
+        Style::Readings => random.pick(&[300, 1500, 6000, 40_000]) + random.below(300),
     };
     capacity as u64
 }
@@ -170,7 +218,7 @@ fn random_last(random: &mut Random, style: Style) -> Option<usize> {
         Style::Full => random.once_in(8).then(|| random.below(3)),
         Style::Pieces => (!random.once_in(8)).then(|| random.below(90)),
         Style::Tiles | Style::Cuts => random.once_in(3).then(|| random.below(6)),
-        Style::Fields | Style::FullFields | Style::Origins => {
+        Style::Fields | Style::FullFields | Style::Origins | Style::Readings => {
             random.once_in(4).then(|| random.below(3))
         }
     }

@@ -2,7 +2,7 @@
 //! reference. Compared are every answer, every output byte, every viewed byte,
 //! and at the end of each list all entries by their positions.
 //!
-//! There are nine kinds of lists, 27,000 lists in all. ZOMBIRELS_LISTS sets how
+//! There are ten kinds of lists, 30,000 lists in all. ZOMBIRELS_LISTS sets how
 //! many each kind gets. From 1,000 on it is checked that each kind meets the
 //! refusals that it is there for.
 
@@ -13,6 +13,7 @@ mod items;
 mod list;
 mod origins;
 mod pair;
+mod readings;
 #[path = "../support/mod.rs"]
 mod support;
 mod sweep;
@@ -23,7 +24,6 @@ use pair::{Pair, Seen};
 use reference::ledger::Ledger;
 use support::calls::Call;
 use support::outputs::GUARD;
-use support::pieces::piece;
 use support::Random;
 use zombirels::package::{Package, OVERHEAD};
 use zombirels::script::Code;
@@ -61,6 +61,7 @@ fn run_list(random: &mut Random, style: Style, seen: &mut Seen) -> usize {
         ledger,
         seen,
         made: vec![Call::new(Code::Start, &[]).with_number(list.capacity)],
+        wrote: None,
     };
     let count = match style {
         Style::Full | Style::FullFields => 350 + random.below(51),
@@ -69,7 +70,10 @@ fn run_list(random: &mut Random, style: Style, seen: &mut Seen) -> usize {
     for _ in 0..count {
         let call = list.call(random, &pair.ledger);
         if pair.compare(random, &call).is_ok() {
-            note(&mut list, call);
+            if let Some(stream) = pair.wrote.take() {
+                list.note_written(random, call.code, stream);
+            }
+            list.note(call);
         }
         pair.some_entries(random);
     }
@@ -79,25 +83,6 @@ fn run_list(random: &mut Random, style: Style, seen: &mut Seen) -> usize {
     let calls = pair.made.len();
     assert!(bytes[..GUARD] == guards.0 && bytes[GUARD + length..] == guards.1);
     calls
-}
-
-/// Notes what an accepted call put.
-fn note(list: &mut List, call: Call) {
-    let [first, second, ..] = call.texts;
-    match call.code {
-        Code::PutItem => list.held.push(first),
-        Code::PutDefault => list.extensions.push(first),
-        Code::PutOverride => list.overrides.push(first),
-        Code::PutRelationship => list.relationships.push((first, second)),
-        Code::Start => list.restart(call.number),
-        Code::CutPart => {
-            let count = call.number as usize;
-            let pieces = [0, count / 2, count - 1].map(|k| piece(&first, k, count));
-            list.held.extend(pieces);
-        }
-        Code::JoinPart => list.held.push(first),
-        _ => {}
-    }
 }
 
 /// Runs all lists of a style. If there are enough for that, checks that each
@@ -132,6 +117,7 @@ fn run_lists(style: Style, expected: &[(Code, &[u64])], resolved: &[(usize, usiz
     let kinds = match style {
         Style::Cuts => &cuts::KINDS[..],
         Style::Origins => &origins::KINDS,
+        Style::Readings => &readings::KINDS,
         _ => &[],
     };
     for kind in kinds {
@@ -295,5 +281,22 @@ fn full_fields_lists() {
             (Code::PutRelationship, &[0, 4, 5, 8, 9, 15]),
         ],
         &[],
+    );
+}
+
+#[test]
+fn readings_lists() {
+    run_lists(
+        Style::Readings,
+        &[
+            (Code::ReadTypes, &[0, 4, 7, 10, 15, 19, 20]),
+            (Code::ReadRelationships, &[0, 4, 5, 8, 9, 10, 15, 19, 20]),
+            (Code::WriteTypes, &[0, 3]),
+            (Code::WriteRelationships, &[0, 3, 4, 5]),
+            (Code::PutDefault, &[0, 7, 10, 15]),
+            (Code::PutOverride, &[0, 4, 7, 10, 15]),
+            (Code::PutRelationship, &[0, 4, 5, 8, 9, 10, 15]),
+        ],
+        &[(0, 0), (1, 0)],
     );
 }

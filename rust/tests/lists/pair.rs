@@ -3,6 +3,7 @@
 use crate::cuts::Before;
 use crate::entries::SeenEntries;
 use crate::origins;
+use crate::readings::Reading;
 use crate::support::calls::{Answer, Call};
 use crate::support::outputs::Outputs;
 use crate::support::Random;
@@ -18,7 +19,7 @@ pub struct Seen {
     pub numbers: BTreeMap<(Code, u64), usize>,
     /// The same of the calls that put or write a type with parameters.
     pub parameters: BTreeMap<(Code, u64), usize>,
-    /// What was remarkable about cuts, joins and type origins.
+    /// What was remarkable about cuts, joins, type origins and readings.
     pub kinds: BTreeMap<&'static str, usize>,
     /// The modes of resolved targets, and whether their parts were held.
     pub resolved: BTreeSet<(usize, usize)>,
@@ -60,6 +61,8 @@ pub struct Pair<'a> {
     pub seen: &'a mut Seen,
     /// All calls of the list up to now, for the message.
     pub made: Vec<Call>,
+    /// The stream that the archive wrote last, if the last call was one to.
+    pub wrote: Option<Vec<u8>>,
 }
 
 impl Pair<'_> {
@@ -70,7 +73,9 @@ impl Pair<'_> {
         let cuts = matches!(call.code, Code::CutPart | Code::JoinPart);
         let cut = cuts.then(|| Before::new(call, &self.ledger));
         let asks = call.code == Code::TypeOrigin;
-        let keep = (call.changes() || asks) && random.once_in(4);
+        let reads = matches!(call.code, Code::ReadTypes | Code::ReadRelationships);
+        let reading = reads.then(|| Reading::new(call, &self.ledger));
+        let keep = reads || (call.changes() || asks) && random.once_in(4);
         let kept = keep.then(|| self.package.as_bytes().to_vec());
         let answer = call.by_archive(self.package, outputs.archive());
         let right = call.by_reference(&mut self.ledger, length, outputs.reference());
@@ -94,10 +99,17 @@ impl Pair<'_> {
             _ => {}
         }
         self.seen.add(call, answer, outputs.archive());
-        let kinds = match cut {
-            Some(before) => before.kinds(call, answer),
-            None if asks => origins::kinds(call, answer, &self.ledger),
-            None => Vec::new(),
+        self.wrote = match call.code {
+            Code::WriteTypes | Code::WriteRelationships if answer.is_ok() => {
+                Some(outputs.archive()[..call.written(answer)].to_vec())
+            }
+            _ => None,
+        };
+        let kinds = match (cut, reading) {
+            (Some(before), _) => before.kinds(call, answer),
+            (_, Some(reading)) => reading.kinds(answer, &self.ledger),
+            _ if asks => origins::kinds(call, answer, &self.ledger),
+            _ => Vec::new(),
         };
         for kind in kinds {
             *self.seen.kinds.entry(kind).or_insert(0) += 1;

@@ -35,6 +35,8 @@ fn add(script: &mut Script, call: &Call) {
         Code::CutPart => script.cut_part(a, n),
         Code::JoinPart => script.join_part(a),
         Code::TypeOrigin => script.type_origin(a, lent),
+        Code::ReadTypes => script.read_types(a),
+        Code::ReadRelationships => script.read_relationships(a, b),
     };
 }
 
@@ -88,7 +90,7 @@ fn codes() {
         assert_eq!(Code::from_number(code.number()), Some(code));
     }
     assert_eq!(Code::from_number(0), None);
-    assert_eq!(Code::from_number(22), None);
+    assert_eq!(Code::from_number(24), None);
     assert_eq!(Code::from_number(u32::MAX), None);
 }
 

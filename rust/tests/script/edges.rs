@@ -72,7 +72,7 @@ fn random_bytes() {
             for at in (0..script.len()).step_by(4).take(8 * small) {
                 let end = script.len().min(at + 4);
                 script[at..end].fill(0);
-                script[at] = random.pick(&[0, 1, 2, 3, 10, 11, 12, 18, 19, 20, 21, 22]);
+                script[at] = random.pick(&[0, 1, 2, 3, 10, 11, 12, 18, 19, 20, 21, 22, 23, 24]);
             }
         }
         let mut pair = Pair::new(50, 0);
@@ -101,8 +101,8 @@ fn codes_and_lengths() {
     let refused = (2 * REPLY_SIZE, first.len(), 1);
     for code in [
         0,
-        22,
-        23,
+        24,
+        25,
         255,
         256,
         257,

@@ -35,13 +35,14 @@ const COVERED: usize = 2000;
 
 /// Numbers that each call must have met, beside 0.
 #[rustfmt::skip]
-const EXPECTED: [(Code, &[u64]); 21] = [
+const EXPECTED: [(Code, &[u64]); 23] = [
     (Code::Start, &[2]), (Code::PutItem, &[4, 5, 6, 10, 11, 12, 15]), (Code::DropItem, &[4, 5, 6, 13]), (Code::PutDefault, &[7, 10, 15]),
     (Code::DropDefault, &[7, 13]), (Code::PutOverride, &[4, 7, 10, 15]), (Code::DropOverride, &[4, 13]),
     (Code::PutRelationship, &[4, 5, 8, 9, 10, 15]), (Code::DropRelationship, &[4, 5, 8, 13]), (Code::FindItem, &[4, 6, 13]),
     (Code::ViewItem, &[]), (Code::Totals, &[]), (Code::ReadPart, &[4, 13]), (Code::MediaType, &[3, 4, 13, 14]), (Code::PartAt, &[3, 13]),
     (Code::ResolveRelationship, &[3, 4, 5, 8, 9, 13]), (Code::WriteTypes, &[3]), (Code::WriteRelationships, &[3, 4, 5]),
     (Code::CutPart, &[4, 13, 15, 17, 18]), (Code::JoinPart, &[4, 13, 18]), (Code::TypeOrigin, &[3, 4, 13]),
+    (Code::ReadTypes, &[4, 7, 10, 15, 19, 20]), (Code::ReadRelationships, &[4, 5, 8, 9, 10, 15, 19, 20]),
 ];
 
 /// What came in the scripts.

@@ -4,7 +4,7 @@ use crate::bytes::{output_of, reply_at};
 use crate::pair::Pair;
 use crate::support::calls::Call;
 use crate::support::types::near_media_type;
-use crate::support::Random;
+use crate::support::{streams, Random};
 use reference::ledger::Ledger;
 use zombirels::package::{CAPACITY_MAX, OVERHEAD};
 use zombirels::script::{Code, REPLY_SIZE};
@@ -81,6 +81,11 @@ pub fn random_call(random: &mut Random, lent: u64) -> Call {
         Code::PutRelationship => (source, id, kind, target),
         Code::DropRelationship | Code::ResolveRelationship => (source, id, base, vec![]),
         Code::WriteRelationships => (source, vec![], vec![], vec![]),
+        Code::ReadTypes => (streams::types(random, 8), vec![], vec![], vec![]),
+        Code::ReadRelationships => {
+            let stream = streams::relationships(random, 8);
+            (source, stream, vec![], vec![])
+        }
         Code::Start | Code::PartAt | Code::Totals | Code::WriteTypes => {
             (vec![], vec![], vec![], vec![])
         }
@@ -120,6 +125,7 @@ pub fn taken_texts(code: Code) -> usize {
     match code {
         Code::Start | Code::PartAt | Code::Totals | Code::WriteTypes => 0,
         Code::PutItem | Code::PutDefault | Code::PutOverride | Code::DropRelationship => 2,
+        Code::ReadRelationships => 2,
         Code::ResolveRelationship => 3,
         Code::PutRelationship => 4,
         _ => 1,
@@ -187,7 +193,7 @@ pub fn random_tail(random: &mut Random) -> Vec<u8> {
     match random.below(8) {
         0 => whole[..random.below(whole.len())].to_vec(),
         1 => {
-            let code = random.pick(&[0, 22, 255, 256 + 2, 1 << 24, u32::MAX]);
+            let code = random.pick(&[0, 24, 255, 256 + 2, 1 << 24, u32::MAX]);
             let mut bytes = whole;
             bytes[..4].copy_from_slice(&code.to_le_bytes());
             bytes

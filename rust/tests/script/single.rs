@@ -8,6 +8,7 @@ use crate::random::{random_calls, random_length, random_tail};
 use crate::support::calls::{self, Call};
 use crate::support::{self, numbers, Random};
 use crate::SCRIPTS;
+use reference::examples::streams::{DEFAULT, RELATIONSHIP};
 use zombirels::package::{Package, Resolved};
 use zombirels::script::{Answer, Code, HEAD_SIZE, REPLY_SIZE};
 
@@ -149,6 +150,8 @@ fn damaged_packages() {
 /// Every call, one after the other.
 fn every_call() -> Vec<Call> {
     let base: &[u8] = b"http://h/p.opc";
+    let types = DEFAULT.stream(b"$<$e$>");
+    let links = RELATIONSHIP.stream(b"$<$e$>");
     vec![
         Call::new(Code::FindItem, &[b"/a"]),
         Call::new(Code::ViewItem, &[b"/a"]).with_output(5000),
@@ -174,6 +177,10 @@ fn every_call() -> Vec<Call> {
         Call::new(Code::DropOverride, &[b"/a"]),
         Call::new(Code::PutRelationship, &[b"/", b"b", b"a:b", b"a"]),
         Call::new(Code::DropRelationship, &[b"/", b"a"]),
+        Call::new(Code::ReadTypes, &[&types]),
+        Call::new(Code::ReadTypes, &[&types[1..]]),
+        Call::new(Code::ReadRelationships, &[b"/", &links]),
+        Call::new(Code::ReadRelationships, &[b"/", &types]),
         Call::new(Code::Start, &[]).with_number(1000),
         Call::new(Code::Totals, &[]),
     ]

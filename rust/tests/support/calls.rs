@@ -41,7 +41,13 @@ impl Call {
 
     /// Whether the call changes the package if it is accepted.
     pub fn changes(&self) -> bool {
-        self.code < Code::FindItem || matches!(self.code, Code::CutPart | Code::JoinPart)
+        let late = [
+            Code::CutPart,
+            Code::JoinPart,
+            Code::ReadTypes,
+            Code::ReadRelationships,
+        ];
+        self.code < Code::FindItem || late.contains(&self.code)
     }
 
     /// How many of the lent bytes the call wrote if this is its answer.
@@ -103,6 +109,8 @@ impl Call {
                 let length = origin.key().map_or(0, <[u8]>::len);
                 [origin.number() as usize, length, 0]
             }),
+            Code::ReadTypes => package.read_types(a).map(done),
+            Code::ReadRelationships => package.read_relationships(a, b).map(done),
         };
         answer.map_err(numbers)
     }

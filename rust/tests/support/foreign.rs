@@ -183,8 +183,29 @@ pub type Call = fn(&mut Package, &mut [u8]) -> Result<(), Refusal>;
 const TYPE: &[u8] = b"image/tiff";
 const BASE: &[u8] = b"http://example.com/slide.opc";
 
+/// A types stream of so many entries, Defaults and Overrides in turn.
+fn types(count: usize) -> Vec<u8> {
+    let entry = |i: usize| match i % 2 {
+        0 => format!("<Default Extension='e{i}' ContentType='a/b'/>"),
+        _ => format!("<Override PartName='/n{i}' ContentType='a/b'/>"),
+    };
+    stream("Types", "content-types", (0..count).map(entry).collect())
+}
+
+/// A Relationships part of so many entries.
+fn links(count: usize) -> Vec<u8> {
+    let entry = |i| format!("<Relationship Id='r{i}' Type='a:b' Target='t'/>");
+    let entries = (0..count).map(entry).collect();
+    stream("Relationships", "relationships", entries)
+}
+
+fn stream(root: &str, namespace: &str, entries: String) -> Vec<u8> {
+    let place = "http://schemas.openxmlformats.org/package/2006";
+    format!("<{root} xmlns='{place}/{namespace}'>{entries}</{root}>").into_bytes()
+}
+
 /// Every call on a package but start.
-pub const CALLS: [(&str, Call); 30] = [
+pub const CALLS: [(&str, Call); 35] = [
     ("put item", |p, _| p.put_item(b"/b", [7; 100])),
     ("put item, derivable", |p, _| p.put_item(b"/a/b", b"")),
     ("drop item", |p, _| p.drop_item(b"/a")),
@@ -235,6 +256,15 @@ pub const CALLS: [(&str, Call); 30] = [
     ("write types", |p, out| p.write_types(out).map(drop)),
     ("write relationships", |p, out| {
         p.write_relationships(b"/", out).map(drop)
+    }),
+    ("read types", |p, _| p.read_types(types(2))),
+    ("read types, 300", |p, _| p.read_types(types(300))),
+    ("read types, malformed", |p, _| p.read_types(&types(2)[1..])),
+    ("read relationships", |p, _| {
+        p.read_relationships(b"/", links(2))
+    }),
+    ("read relationships, 300", |p, _| {
+        p.read_relationships(b"/", links(300))
     }),
     ("restart", |p, _| p.restart(CAPACITY_MAX + 1)),
 ];

@@ -6,6 +6,7 @@ pub mod calls;
 pub mod entries;
 pub mod outputs;
 pub mod pieces;
+pub mod streams;
 pub mod types;
 
 use std::time::{SystemTime, UNIX_EPOCH};

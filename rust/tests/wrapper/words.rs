@@ -9,7 +9,7 @@ use zombirels::Refusal;
 #[test]
 fn refusals() {
     let mut texts = Vec::new();
-    for number in 1..=18 {
+    for number in 1..=20 {
         let refusal = Refusal::from_number(number).expect("a refusal");
         assert_eq!(u64::from(refusal.number()), number);
         texts.push(refusal.to_string());
@@ -19,8 +19,8 @@ fn refusals() {
     }
     texts.sort();
     texts.dedup();
-    assert_eq!(texts.len(), 18);
-    for number in [0, 19, 255, 256 + 1, u64::MAX] {
+    assert_eq!(texts.len(), 20);
+    for number in [0, 21, 255, 256 + 1, u64::MAX] {
         assert_eq!(Refusal::from_number(number), None);
     }
     let short = Refusal::from_number(3);

@@ -6,6 +6,7 @@ use crate::Refusal;
 use std::collections::BTreeMap;
 
 /// An item, and the mark of a piece.
+#[derive(Clone)]
 pub(super) struct Item {
     pub(super) name: Vec<u8>,
     pub(super) bytes: Vec<u8>,
@@ -40,7 +41,7 @@ impl Item {
 
 /// The items with equivalent prefixes, by number; a whole item stands alone
 /// as number 0. A group is never empty.
-#[derive(Default)]
+#[derive(Clone, Default)]
 pub(super) struct Group {
     pub(super) items: BTreeMap<u16, Item>,
 }

@@ -7,6 +7,7 @@ use crate::pack::pack_iri;
 use crate::xml::Xml;
 use crate::{write_out, Refusal};
 
+#[derive(Clone)]
 pub(super) struct Relationship {
     source: Vec<u8>,
     id: Vec<u8>,

@@ -10,6 +10,7 @@ const DEFAULTS_MAX: usize = 64;
 const OVERRIDES_MAX: usize = 64;
 
 /// A Default (key: extension) or an Override (key: part name).
+#[derive(Clone)]
 pub(super) struct Typed {
     key: Vec<u8>,
     media_type: Vec<u8>,
