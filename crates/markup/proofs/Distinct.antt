@@ -25,7 +25,7 @@ unfolding attributeNamed
 named-nil w = refl
 
 -- one of several has the name
-named-in : (w : List ℕ) (xs : List Attribute) (a : Attribute) (ys : List Attribute) → same (a .name) w ≡ true → named w (xs ++ (a ∷ ys)) ≡ true
+pub named-in : (w : List ℕ) (xs : List Attribute) (a : Attribute) (ys : List Attribute) → same (a .name) w ≡ true → named w (xs ++ (a ∷ ys)) ≡ true
 named-in w [] a ys e = ap isThere (named-here w a ys e)
 named-in w (b ∷ xs) a ys e = go (same (b .name) w) refl (named-in w xs a ys e)
   where
@@ -33,8 +33,16 @@ named-in w (b ∷ xs) a ys e = go (same (b .name) w) refl (named-in w xs a ys e)
     go true f ih = ap isThere (named-here w b (xs ++ (a ∷ ys)) f)
     go false f ih = ap isThere (named-later w b (xs ++ (a ∷ ys)) f) ∙ ih
 
+pub named-left : (w : List ℕ) (xs ys : List Attribute) → named w xs ≡ true → named w (xs ++ ys) ≡ true
+named-left w [] ys e = absurd (false≢true (sym (ap isThere (named-nil w)) ∙ e))
+named-left w (b ∷ xs) ys e = go (same (b .name) w) refl (λ (g : named w xs ≡ true). named-left w xs ys g)
+  where
+    go : (q : Bool) → same (b .name) w ≡ q → (named w xs ≡ true → named w (xs ++ ys) ≡ true) → named w (b ∷ (xs ++ ys)) ≡ true
+    go true f ih = ap isThere (named-here w b (xs ++ ys) f)
+    go false f ih = ap isThere (named-later w b (xs ++ ys) f) ∙ ih (sym (ap isThere (named-later w b xs f)) ∙ e)
+
 -- neither the others nor the last one
-named-not : (w : List ℕ) (xs : List Attribute) (a : Attribute) → same (a .name) w ≡ false → named w xs ≡ false → named w (xs ++ (a ∷ [])) ≡ false
+pub named-not : (w : List ℕ) (xs : List Attribute) (a : Attribute) → same (a .name) w ≡ false → named w xs ≡ false → named w (xs ++ (a ∷ [])) ≡ false
 named-not w [] a e h = ap isThere (named-later w a [] e) ∙ h
 named-not w (b ∷ xs) a e h = go (same (b .name) w) refl (λ (g : named w xs ≡ false). named-not w xs a e g)
   where

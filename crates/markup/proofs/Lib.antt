@@ -15,7 +15,7 @@ pub mod NameTexts
 pub mod AttributeLists
 pub mod Distinct
 pub mod NameMarks
-pub mod NameNotes
+pub mod NamePlaces
 pub mod AttributePlaces
 pub mod AttributeWalks
 pub mod Chunks

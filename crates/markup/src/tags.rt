@@ -57,14 +57,7 @@ fn mark_of(s: &[u8], at: usize, end: usize) -> usize
 }
 
 // Whether one of the first `count` attributes from `from` on has the name from `at` to `end`. A name that left no mark is not looked for.
-pub(crate) fn is_repeated(
-    s: &[u8],
-    from: usize,
-    count: usize,
-    at: usize,
-    end: usize,
-    marked: bool,
-) -> bool
+fn is_repeated(s: &[u8], from: usize, count: usize, at: usize, end: usize, marked: bool) -> bool
     requires { ⌜ (from ≤ length (now s)) × Reached (now s) at end × (marked ≡ false → named (part at (end - at) (now s)) (attributesAt count (drop from (now s))) ≡ false) ⌝ }
     ensures { λ r. ⌜ r ≡ named (part at (end - at) (now (s .entry))) (attributesAt count (drop from (now (s .entry)))) ⌝ }
 {
