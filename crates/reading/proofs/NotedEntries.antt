@@ -1,20 +1,17 @@
 -- Each kind of entry, judged: by its fields, then by noting it in the shadow.
 -- Assumes nothing.
-use Prim.Native.Nat.{ℕ, suc, _+_, _-_, _≤_, _<_}
-use mathlib.Core.Path.{_≡_, refl, ap, ap₂, sym, _∙_, subst}
-use mathlib.Core.Bool.{Bool, true, false}
-use mathlib.Core.List.{List, [], _∷_}
-use native.Mathlib.Omega.{arith}
+use Prim.Native.Nat.{ℕ, _+_, _-_, _≤_, _<_}
+use mathlib.Core.Path.{_≡_, ap, sym, _∙_, subst}
+use mathlib.Core.Bool.{Bool}
+use mathlib.Core.List.{List}
 use lib.ListN.{length}
-use Rattle.chars.specs.Bytes.{ascii}
 use Rattle.markup.specs.declared.entries.Kind.{Kind}
-use Rattle.markup.specs.declared.entries.Kind.the-variants.{Types, Relationships}
-use Rattle.model.specs.Sets.{Bytes, sameKey}
-use Rattle.model.specs.Package.{State, Default, Override, Relationship, defaultKind, overrideKind, relationshipKind, charge}
-use Rattle.model.specs.Puts.{putRefusal, putIn}
+use Rattle.model.specs.Sets.{Bytes}
+use Rattle.model.specs.Package.{State, charge}
+use Rattle.model.specs.Puts.{putIn}
 use Rattle.model.specs.Good.{Good}
 use Rattle.model.specs.Calls.{Numbered}
-use Rattle.model.specs.Reading.{Entered, ADefault, AnOverride, ARelationship, entryRefusal, entryMade}
+use Rattle.model.specs.Reading.{Entered, entryMade}
 use Rattle.model.proofs.Refusals.{first-met}
 use Rattle.model.proofs.Steps.{entry-good}
 use Rattle.model.proofs.EntryPuts.{PutsAs}
@@ -28,7 +25,7 @@ use Rattle.reading.specs.Notes.{shade, Notes, Joined, Beyond, LeftIn, no
 use Rattle.reading.specs.Judging.{fieldsOf, TakenAs, StoppedAs, JudgedAs}
 use Rattle.reading.specs.declared.shadow.Judged.{Judged}
 use Rattle.reading.specs.declared.shadow.Judged.the-variants.{Takes, Refused}
-use Rattle.reading.proofs.NotedRows.{noted-fits, noted-few, noted-put, note-is}
+use Rattle.reading.proofs.NotedRows.{noted-fits, noted-put, note-is}
 
 -- how the entries of a set are noted in the readings of a kind
 pub record Noting {E : Type 0} (K : RowKind E) (made : E → Entered) (shaded : E → E) (Mine : E → Type 0) (R : Kind) (source : Bytes) : Type 0 where

@@ -8,7 +8,6 @@ use native.Mathlib.Omega.{arith}
 use lib.Dec.{leb, ltb, eqb}
 use lib.ListN.{length}
 use borrow.Author.Tests.{leb-true, leb-false, le-leb, lt-leb, ltb-true, ltb-false, lt-ltb, le-ltb, eqb-true, eqb-false}
-use Rattle.base.proofs.Bools.{or-false-left, or-false-right}
 use Rattle.output.specs.Answers.{Answer, refusing}
 use Rattle.output.proofs.Answering.{refusing-is}
 use Rattle.model.specs.Sets.{Key, sameKey, held, lookup, insert}
@@ -20,7 +19,7 @@ use Rattle.model.proofs.Refusals.{first-met, first-unmet, first-one, all-none, 
 use Rattle.model.proofs.Sets.{length-insert}
 use Rattle.model.proofs.KindLaws.{Lawful}
 use Rattle.model.proofs.EntryLists.{held-insert}
-use Rattle.store.specs.Rows.{Row, rowsOf}
+use Rattle.store.specs.Rows.{Row}
 use Rattle.contract.specs.Rows.{setKey, RowKind}
 use Rattle.contract.specs.Holds.{Holds}
 use Rattle.contract.specs.Searches.{Ordered}

@@ -1,9 +1,9 @@
 -- How Defaults, Overrides and relationships are noted: their shades have their keys, accepted fields, and fit the shadow.
 -- Assumes nothing.
-use Prim.Native.Nat.{ℕ, suc, _+_, _-_, _*_, _≤_, _<_}
-use mathlib.Core.Path.{_≡_, refl, ap, ap₂, sym, _∙_, subst}
-use mathlib.Core.Bool.{Bool, true, false, not}
-use mathlib.Core.List.{List, [], _∷_}
+use Prim.Native.Nat.{suc, _-_, _≤_}
+use mathlib.Core.Path.{_≡_, refl, ap, sym, _∙_}
+use mathlib.Core.Bool.{not}
+use mathlib.Core.List.{[]}
 use native.Mathlib.Omega.{arith}
 use lib.ListN.{length}
 use borrow.Author.Tests.{not-false}
@@ -14,10 +14,10 @@ use Rattle.names.specs.Types.{extension, identifier}
 use Rattle.names.proofs.Lengths.{part-name-size, extension-size, identifier-size}
 use Rattle.markup.specs.declared.entries.Kind.the-variants.{Types, Relationships}
 use Rattle.model.specs.Sets.{Bytes, keyOrder, isEqual, sameKey, insert}
-use Rattle.model.specs.Fields.{first, typeField, sourceField, relationshipTypeField, modeField, targetField, defaultFields, overrideFields, relationshipFields}
+use Rattle.model.specs.Fields.{typeField, sourceField, relationshipTypeField, targetField, defaultFields, overrideFields, relationshipFields}
 use Rattle.model.specs.Package.{State, Default, Override, Relationship, Kind, defaultKind, overrideKind, relationshipKind, relationshipKey, charge}
 use Rattle.model.specs.Puts.{putIn}
-use Rattle.model.specs.Reading.{Entered, ADefault, AnOverride, ARelationship}
+use Rattle.model.specs.Reading.{ADefault, AnOverride, ARelationship}
 use Rattle.model.specs.Opened.{everything}
 use Rattle.model.proofs.Refusals.{all-none, none-all, unmet}
 use Rattle.model.proofs.Numbers.{default-numbered, override-numbered, relationship-numbered}
@@ -27,9 +27,8 @@ use Rattle.model.proofs.KindLaws.{Lawful, default-lawful, override-lawful, rela
 use Rattle.model.proofs.Charges.{charge-put}
 use Rattle.model.proofs.EntryPuts.{defaults-put, overrides-put, relationships-put}
 use Rattle.contract.specs.Rows.{defaultRows, overrideRows, relationshipRows}
-use Rattle.contract.specs.Holds.{Holds}
 use Rattle.contract.proofs.RowKinds.{default-rows, override-rows, relationship-rows}
-use Rattle.reading.specs.Notes.{shadeDefault, shadeOverride, shadeRelationship, Notes, Joined, Beyond}
+use Rattle.reading.specs.Notes.{shadeDefault, shadeOverride, shadeRelationship}
 use Rattle.reading.proofs.NotedRows.{joined-put}
 use Rattle.reading.proofs.NotedEntries.{Noting}
 

@@ -4,7 +4,7 @@ use Prim.Native.Nat.{ℕ}
 use mathlib.Core.Path.{_≡_}
 use mathlib.Core.List.{List, [], _∷_}
 use mathlib.Core.Option.{Option, none, some}
-use lib.ListN.{length, take}
+use lib.ListN.{take}
 use Rattle.output.specs.Answers.{Answer}
 use Rattle.markup.specs.Entries.{Entry}
 use Rattle.markup.specs.Streams.{said, entriesOf}

@@ -7,7 +7,7 @@ use mathlib.Core.List.{List, [], _∷_}
 use native.Mathlib.Omega.{arith}
 use lib.Dec.{leb}
 use lib.ListN.{length}
-use borrow.Author.Tests.{not-true, not-false, leb-true, le-leb, lt-leb}
+use borrow.Author.Tests.{not-false, leb-true, le-leb, lt-leb}
 use Rattle.chars.specs.FoldedNames.{foldedSize}
 use Rattle.names.specs.Types.{identifier}
 use Rattle.names.specs.Iris.{packageIri}
@@ -17,7 +17,7 @@ use Rattle.model.specs.Fields.{when, first, sourceField, idField, relationshipT
 use Rattle.model.specs.Package.{relationshipKey}
 use Rattle.model.specs.Puts.{putRelationshipRefusal, dropRelationshipRefusal}
 use Rattle.model.specs.Calls.{PutRelationship, DropRelationship}
-use Rattle.model.proofs.Refusals.{first-met, first-unmet, first-one, first-front, first-past, all-none, unmet}
+use Rattle.model.proofs.Refusals.{first-met, first-unmet, first-one, all-none, unmet}
 use Rattle.contract.specs.Rows.{relationshipRows}
 use Rattle.contract.proofs.FieldSizes.{source-size}
 use Rattle.contract.proofs.SetCalls.{Putting, Dropping}

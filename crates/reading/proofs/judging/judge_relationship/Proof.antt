@@ -1,9 +1,6 @@
-use mathlib.Core.Path.{_≡_, refl, sym, _∙_, ap}
+use mathlib.Core.Path.{refl, sym, _∙_}
 use native.Mathlib.Omega.{arith}
-use lib.ListN.{length}
-use Rattle.chars.specs.Bytes.{ascii}
 use Rattle.markup.specs.declared.entries.Kind.the-variants.{Relationships}
-use Rattle.model.specs.Package.{Relationship}
 use Rattle.model.specs.Reading.{ARelationship}
 use Rattle.model.proofs.FieldCuts.{relationship-few}
 use Rattle.contract.specs.Rows.{setOf, second, relationshipRow, relationshipRows}

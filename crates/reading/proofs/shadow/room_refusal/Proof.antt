@@ -1,6 +1,5 @@
 use mathlib.Core.Path.{refl}
 use borrow.Author.Tests.{lt-ltb, le-ltb}
-use borrow.Author.Needs.{needs}
 use Rattle.reading.proofs.shadow.room_refusal.Statement.{statement}
 use Rattle.reading.proofs.shadow.room_refusal.Tie as tie
 
