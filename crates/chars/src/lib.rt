@@ -1,4 +1,6 @@
 // Bytes and characters: folded, compared, searched.
+#![tactic(auto)]
+
 pub mod folded;
 pub mod folding;
 pub mod letters;

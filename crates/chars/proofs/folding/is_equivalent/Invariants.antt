@@ -1,0 +1,15 @@
+use mathlib.Core.Path.{◌≡◌, sym, ◌∙◌}
+use Prim.Native.Nat.{◌-◌, ◌≤◌}
+use native.Mathlib.Omega.{arith}
+use lib.ListN.{length, drop}
+use borrow.Author.Rules.{rules}
+use Rattle.chars.specs.Folding.{equivalent}
+use Rattle.chars.proofs.Comparisons.{lengths_differ, equivalent_at, equivalent_end}
+use Rattle.chars.proofs.SameStarts.{equivalent_skip}
+use Rattle.chars.proofs.folding.is_equivalent.Given as goal
+
+abbrev pub invariant-loop-i : goal.invariant-loop-i
+invariant-loop-i l = (l.i ≤ length l.a) × (equivalent l.a l.b ≡ equivalent (drop l.i l.a) (drop l.i l.b))
+
+abbrev pub decreases-loop-i : goal.decreases-loop-i
+decreases-loop-i l = length l.a - l.i

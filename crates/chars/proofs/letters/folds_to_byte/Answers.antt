@@ -1,0 +1,5 @@
+use borrow.Author.Rules.{rules}
+use Rattle.chars.proofs.letters.folds_to_byte.Goals as goal
+
+pub returns : goal.returns
+returns c = rw c.to_lower.ensures
