@@ -3,7 +3,7 @@ ghost use Rattle.std.specs.Prelude.{◌≡◌, ◌+◌, drop};
 ghost use Rattle.chars.specs.Lists.{index_of, after_last, lacks};
 
 // The sets of bytes that texts are made of, or searched for.
-#[derive(Drop)]
+#[derive(Clone, Copy)]
 pub enum Alphabet {
     Token,
     Scheme,

@@ -3,7 +3,7 @@ ghost use Rattle.std.specs.Prelude.{◌≡◌};
 ghost use Rattle.chars.specs.Bytes.{hex_value};
 
 // Whose units they are.
-#[derive(Drop)]
+#[derive(Clone, Copy)]
 pub enum Grammar {
     Segment,
     Iri,
