@@ -1,6 +1,6 @@
 -- A unit ends before a byte that no unit goes on with: what precedes the first number sign of a text of units is one.
 -- Assumes nothing.
-use Prim.Native.Nat.{ℕ, ◌+◌, ◌≤◌, zero, suc, pred}
+use Prim.Native.Nat.{ℕ, ◌≤◌, zero, suc, pred}
 use mathlib.Core.Path.{◌≡◌, ap, ◌∙◌, sym, refl}
 use mathlib.Core.Bool.{false, ◌&&◌, cond, true, not, false≢true}
 use mathlib.Core.List.{List, ◌∷◌, ◌++◌, []}

@@ -1,4 +1,3 @@
-use borrow.Author.Rules.{rules}
 use Rattle.chars.proofs.folded.compare_on.Goals as goal
 
 pub returns : goal.returns

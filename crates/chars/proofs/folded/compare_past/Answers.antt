@@ -1,5 +1,4 @@
 use native.Mathlib.Omega.{arith}
-use borrow.Author.Rules.{rules}
 use Rattle.chars.proofs.FoldedNames.{shared_on, shared_end, compared_bytes}
 use Rattle.chars.proofs.folded.compare_past.Goals as goal
 

@@ -1,9 +1,7 @@
-use Prim.Native.Nat.{◌-◌, ◌≤◌, ◌<◌}
-use mathlib.Core.Path.{◌≡◌, refl, sym, ◌∙◌}
+use Prim.Native.Nat.{◌<◌}
+use mathlib.Core.Path.{refl, sym, ◌∙◌}
 use native.Mathlib.Omega.{arith}
-use lib.ListN.{length, take, length-set}
-use borrow.Author.Rules.{rules}
-use Rattle.chars.specs.Folding.{fold}
+use lib.ListN.{length, length-set}
 use Rattle.chars.proofs.FoldedNames.{fill_next, filled}
 use Rattle.chars.proofs.folded.fold_into.Goals as goal
 

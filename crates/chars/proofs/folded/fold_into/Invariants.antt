@@ -1,10 +1,7 @@
-use Prim.Native.Nat.{◌-◌, ◌≤◌, ◌<◌}
-use mathlib.Core.Path.{◌≡◌, refl, sym, ◌∙◌}
-use native.Mathlib.Omega.{arith}
-use lib.ListN.{length, take, length-set}
-use borrow.Author.Rules.{rules}
+use Prim.Native.Nat.{◌-◌, ◌≤◌}
+use mathlib.Core.Path.{◌≡◌}
+use lib.ListN.{length, take}
 use Rattle.chars.specs.Folding.{fold}
-use Rattle.chars.proofs.FoldedNames.{fill_next, filled}
 use Rattle.chars.proofs.folded.fold_into.Given as goal
 
 abbrev pub invariant-loop-i : goal.invariant-loop-i

@@ -1,5 +1,4 @@
 use Rattle.chars.proofs.FoldedNames.{folds_unlike, folds_alike}
-use borrow.Author.Rules.{rules}
 use Rattle.chars.proofs.folded.folds_to.Goals as goal
 
 pub returns-then-a-q : goal.returns-then-a-q

@@ -1,5 +1,4 @@
 use Rattle.chars.specs.FoldedNames.{held_eight}
-use borrow.Author.Rules.{rules}
 use Rattle.chars.proofs.folded.folds_to_eight.Goals as goal
 
 pub returns-then-is_same_eight : goal.returns-then-is_same_eight

@@ -9,7 +9,6 @@ use Rattle.chars.specs.Folding.{lower, fold}
 use Rattle.chars.specs.Comparing.{in_case}
 use Rattle.chars.specs.FoldedNames.{folded_eight}
 use Rattle.chars.proofs.SameStarts.{same_eight_lem, map_plain}
-use borrow.Author.Rules.{rules}
 use Rattle.chars.proofs.folded.is_folded_eight.Goals as goal
 
 pub returns : goal.returns

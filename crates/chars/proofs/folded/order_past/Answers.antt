@@ -1,6 +1,5 @@
 use Rattle.chars.proofs.FoldedNames.{order_equal, order_shorter, order_longer, order_bytes}
 use native.Mathlib.Omega.{arith}
-use borrow.Author.Rules.{rules}
 use Rattle.chars.proofs.folded.order_past.Goals as goal
 
 pub returns-then-q-c : goal.returns-then-q-c

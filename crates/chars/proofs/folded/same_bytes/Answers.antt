@@ -1,7 +1,4 @@
-use Prim.Native.Nat.{◌-◌}
 use native.Mathlib.Omega.{arith}
-use borrow.Author.Rules.{rules}
-use Rattle.chars.specs.FoldedNames.{SharedSome}
 use Rattle.chars.proofs.FoldedNames.{shared_byte}
 use Rattle.chars.proofs.folded.same_bytes.Goals as goal
 

@@ -1,8 +1,5 @@
 use Prim.Native.Nat.{◌-◌}
-use native.Mathlib.Omega.{arith}
-use borrow.Author.Rules.{rules}
 use Rattle.chars.specs.FoldedNames.{SharedSome}
-use Rattle.chars.proofs.FoldedNames.{shared_byte}
 use Rattle.chars.proofs.folded.same_bytes.Given as goal
 
 abbrev pub invariant-loop-i : goal.invariant-loop-i

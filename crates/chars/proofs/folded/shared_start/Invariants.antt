@@ -1,8 +1,5 @@
 use Prim.Native.Nat.{◌-◌}
-use native.Mathlib.Omega.{arith}
-use borrow.Author.Rules.{rules}
 use Rattle.chars.specs.FoldedNames.{SharedSome}
-use Rattle.chars.proofs.FoldedNames.{shared_next, shared_stop, shared_end}
 use Rattle.chars.proofs.folded.shared_start.Given as goal
 
 abbrev pub invariant-loop-i : goal.invariant-loop-i

@@ -1,6 +1,5 @@
 use native.Mathlib.Omega.{arith}
 use Rattle.base.proofs.Blocks.{slice_part}
-use borrow.Author.Rules.{rules}
 use Rattle.chars.proofs.folded.text_in.Goals as goal
 
 pub returns : goal.returns

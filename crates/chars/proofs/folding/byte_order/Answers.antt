@@ -1,7 +1,6 @@
 use mathlib.Core.Path.{ap}
 use Rattle.chars.specs.Comparing.{in_case}
 use Rattle.chars.proofs.Comparisons.{byte_order_same, byte_order_less, byte_order_greater, byte_order_equal}
-use borrow.Author.Rules.{rules}
 use Rattle.chars.proofs.folding.byte_order.Goals as goal
 
 pub returns-then-p-q : goal.returns-then-p-q

@@ -1,5 +1,4 @@
 use Rattle.chars.proofs.Comparisons.{map_id}
-use borrow.Author.Rules.{rules}
 use Rattle.chars.proofs.folding.compare.Goals as goal
 
 pub returns : goal.returns

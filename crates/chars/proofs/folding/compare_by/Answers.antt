@@ -1,10 +1,5 @@
-use mathlib.Core.Path.{◌≡◌, sym, ◌∙◌}
-use mathlib.Core.List.{map}
-use Prim.Native.Nat.{◌-◌, ◌≤◌}
+use mathlib.Core.Path.{sym, ◌∙◌}
 use native.Mathlib.Omega.{arith}
-use lib.ListN.{length, drop}
-use borrow.Author.Rules.{rules}
-use Rattle.chars.specs.Folding.{order}
 use Rattle.chars.specs.Comparing.{in_case}
 use Rattle.chars.proofs.Comparisons.{order_longer, order_less_at, order_greater_at, order_next, order_shorter, order_end}
 use Rattle.chars.proofs.SameStarts.{order_skip}
@@ -32,12 +27,11 @@ returns-then-o-eq2 c =
     c.if-b-i.false c.byte_order-o.ensures c.if-o-eq2.true)
 
 pub loop-i-preserved : goal.loop-i-preserved
-loop-i-preserved c =
-    (
-      omega arith,
-      c.loop-i.invariant.1 ∙ order_next (in_case c.args.folded) c.args.a.now c.args.b.now _ _
-          c.loop-i-test.true c.if-b-i.false c.byte_order-o.ensures c.if-o-eq0.false c.if-o-eq2.false,
-    )
+loop-i-preserved c = (
+  omega arith,
+  c.loop-i.invariant.1 ∙ order_next (in_case c.args.folded) c.args.a.now c.args.b.now _ _
+      c.loop-i-test.true c.if-b-i.false c.byte_order-o.ensures c.if-o-eq0.false c.if-o-eq2.false,
+)
 
 pub returns-then-i-b : goal.returns-then-i-b
 returns-then-i-b c =

@@ -1,13 +1,9 @@
-use mathlib.Core.Path.{◌≡◌, sym, ◌∙◌}
+use mathlib.Core.Path.{◌≡◌}
 use mathlib.Core.List.{map}
 use Prim.Native.Nat.{◌-◌, ◌≤◌}
-use native.Mathlib.Omega.{arith}
 use lib.ListN.{length, drop}
-use borrow.Author.Rules.{rules}
 use Rattle.chars.specs.Folding.{order}
 use Rattle.chars.specs.Comparing.{in_case}
-use Rattle.chars.proofs.Comparisons.{order_longer, order_less_at, order_greater_at, order_next, order_shorter, order_end}
-use Rattle.chars.proofs.SameStarts.{order_skip}
 use Rattle.chars.proofs.folding.compare_by.Given as goal
 
 abbrev pub invariant-loop-i : goal.invariant-loop-i

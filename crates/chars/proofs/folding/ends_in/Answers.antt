@@ -1,7 +1,6 @@
 use borrow.Author.Tests.{le-leb, lt-leb}
 use Rattle.chars.specs.Folding.{ends_in}
 use Rattle.base.proofs.Lists.{take_rest}
-use borrow.Author.Rules.{rules}
 use Rattle.chars.proofs.folding.ends_in.Goals as goal
 
 pub returns-then-n-s : goal.returns-then-n-s

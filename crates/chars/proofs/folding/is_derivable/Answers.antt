@@ -4,7 +4,6 @@ use lib.Seq.{length-take-le}
 use borrow.Author.Tests.{ne_eqb}
 use Rattle.base.proofs.Bools.{and_false, and_right_true}
 use Rattle.chars.proofs.Derivability.{derivable_is, not_derivable}
-use borrow.Author.Rules.{rules}
 use Rattle.chars.proofs.folding.is_derivable.Goals as goal
 
 pub slice_bounds-is_equivalent-end : goal.slice_bounds-is_equivalent-end

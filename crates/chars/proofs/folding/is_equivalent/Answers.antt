@@ -1,9 +1,5 @@
-use mathlib.Core.Path.{◌≡◌, sym, ◌∙◌}
-use Prim.Native.Nat.{◌-◌, ◌≤◌}
+use mathlib.Core.Path.{sym, ◌∙◌}
 use native.Mathlib.Omega.{arith}
-use lib.ListN.{length, drop}
-use borrow.Author.Rules.{rules}
-use Rattle.chars.specs.Folding.{equivalent}
 use Rattle.chars.proofs.Comparisons.{lengths_differ, equivalent_at, equivalent_end}
 use Rattle.chars.proofs.SameStarts.{equivalent_skip}
 use Rattle.chars.proofs.folding.is_equivalent.Goals as goal
@@ -15,12 +11,11 @@ pub loop-i-init : goal.loop-i-init
 loop-i-init c = (c.same_start-i.ensures.0, equivalent_skip _ _ _ c.same_start-i.ensures.0 c.same_start-i.ensures.1 c.same_start-i.ensures.2)
 
 pub loop-i-preserved : goal.loop-i-preserved
-loop-i-preserved c =
-    (
-      omega arith,
-      c.loop-i.invariant.1 ∙ equivalent_at _ _ _ _ c.loop-i-test.true (omega arith)
-          c.is_same_letter.ensures ∙ rw c.if-is_same_letter.true,
-    )
+loop-i-preserved c = (
+  omega arith,
+  c.loop-i.invariant.1 ∙ equivalent_at _ _ _ _ c.loop-i-test.true (omega arith)
+      c.is_same_letter.ensures ∙ rw c.if-is_same_letter.true,
+)
 
 pub returns-else-is_same_letter : goal.returns-else-is_same_letter
 returns-else-is_same_letter c =

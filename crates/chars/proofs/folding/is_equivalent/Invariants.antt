@@ -1,11 +1,7 @@
-use mathlib.Core.Path.{◌≡◌, sym, ◌∙◌}
+use mathlib.Core.Path.{◌≡◌}
 use Prim.Native.Nat.{◌-◌, ◌≤◌}
-use native.Mathlib.Omega.{arith}
 use lib.ListN.{length, drop}
-use borrow.Author.Rules.{rules}
 use Rattle.chars.specs.Folding.{equivalent}
-use Rattle.chars.proofs.Comparisons.{lengths_differ, equivalent_at, equivalent_end}
-use Rattle.chars.proofs.SameStarts.{equivalent_skip}
 use Rattle.chars.proofs.folding.is_equivalent.Given as goal
 
 abbrev pub invariant-loop-i : goal.invariant-loop-i

@@ -1,4 +1,3 @@
-use borrow.Author.Rules.{rules}
 use Rattle.chars.proofs.folding.to_case.Goals as goal
 
 pub returns-then-folded : goal.returns-then-folded

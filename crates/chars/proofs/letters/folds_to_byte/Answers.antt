@@ -1,4 +1,3 @@
-use borrow.Author.Rules.{rules}
 use Rattle.chars.proofs.letters.folds_to_byte.Goals as goal
 
 pub returns : goal.returns

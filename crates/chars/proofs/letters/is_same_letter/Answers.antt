@@ -1,4 +1,3 @@
-use borrow.Author.Rules.{rules}
 use Rattle.chars.proofs.letters.is_same_letter.Goals as goal
 
 pub returns : goal.returns

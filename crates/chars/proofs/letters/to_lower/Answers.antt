@@ -1,6 +1,5 @@
 use borrow.Author.Tests.{le-leb, lt-leb}
 use Rattle.chars.specs.Folding.{lower}
-use borrow.Author.Rules.{rules}
 use Rattle.chars.proofs.letters.to_lower.Goals as goal
 
 pub returns-then-b-le90 : goal.returns-then-b-le90

@@ -1,9 +1,4 @@
-use mathlib.Core.Path.{◌≡◌, sym, ◌∙◌}
-use Prim.Native.Nat.{◌+◌, ◌-◌}
-use native.Mathlib.Omega.{arith}
-use lib.ListN.{length, drop}
-use borrow.Author.Rules.{rules}
-use Rattle.chars.specs.Lists.{index_of}
+use mathlib.Core.Path.{sym, ◌∙◌}
 use Rattle.chars.proofs.Searches.{index_hit, index_miss, index_end}
 use Rattle.chars.proofs.search.find.Goals as goal
 

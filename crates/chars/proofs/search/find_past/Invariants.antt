@@ -1,10 +1,7 @@
-use mathlib.Core.Path.{◌≡◌, sym, ap, ◌∙◌}
-use Prim.Native.Nat.{ℕ, ◌≤◌}
-use native.Mathlib.Omega.{arith}
+use mathlib.Core.Path.{◌≡◌}
+use Prim.Native.Nat.{◌≤◌}
 use lib.ListN.{length, take}
-use lib.Seq.{take-length}
 use Rattle.chars.specs.Lists.{after_last}
-use Rattle.chars.proofs.Searches.{last_hit, last_miss}
 use Rattle.chars.proofs.search.find_past.Given as goal
 
 abbrev pub invariant-loop-i : goal.invariant-loop-i

@@ -1,5 +1,4 @@
 use Rattle.chars.proofs.Searches.{lacks_found}
-use borrow.Author.Rules.{rules}
 use Rattle.chars.proofs.search.has_no.Goals as goal
 
 pub returns : goal.returns

@@ -1,9 +1,7 @@
-use mathlib.Core.Path.{◌≡◌, refl, sym, ◌∙◌}
+use mathlib.Core.Path.{◌≡◌}
 use Prim.Native.Nat.{◌+◌, ◌-◌, ◌≤◌}
-use native.Mathlib.Omega.{arith}
 use lib.ListN.{length, drop}
 use Rattle.chars.specs.Lists.{index_of}
-use Rattle.chars.proofs.Searches.{index_miss, index_miss2, index_miss3, index_miss4}
 use Rattle.chars.proofs.search.skip_fours.Given as goal
 
 abbrev pub invariant-loop-i : goal.invariant-loop-i

@@ -2,7 +2,6 @@ use mathlib.Core.Path.{sym, ap, ◌∙◌}
 use mathlib.Core.Bool.{Bool}
 use Rattle.chars.specs.Comparing.{same_eight}
 use Rattle.chars.proofs.SameStarts.{same_eight_plain}
-use borrow.Author.Rules.{rules}
 use Rattle.chars.proofs.starts.agree.Goals as goal
 
 pub returns-then-is_same_eight : goal.returns-then-is_same_eight

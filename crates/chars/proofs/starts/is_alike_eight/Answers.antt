@@ -2,7 +2,6 @@ use native.Mathlib.Omega.{arith}
 use Rattle.chars.specs.Folding.{lower}
 use Rattle.chars.specs.Comparing.{same_eight}
 use Rattle.chars.proofs.SameStarts.{same_eight_lem}
-use borrow.Author.Rules.{rules}
 use Rattle.chars.proofs.starts.is_alike_eight.Goals as goal
 
 pub returns : goal.returns

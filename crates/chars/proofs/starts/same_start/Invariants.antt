@@ -1,11 +1,8 @@
-use mathlib.Core.Path.{◌≡◌, refl, sym, ◌∙◌}
+use mathlib.Core.Path.{◌≡◌}
 use Prim.Native.Nat.{◌-◌, ◌≤◌}
-use native.Mathlib.Omega.{arith}
 use lib.ListN.{length, take}
-use borrow.Author.Rules.{rules}
 use mathlib.Core.List.{map}
 use Rattle.chars.specs.Comparing.{in_case}
-use Rattle.chars.proofs.SameStarts.{same_eight_eq, take_longer}
 use Rattle.chars.proofs.starts.same_start.Given as goal
 
 abbrev pub invariant-loop-i : goal.invariant-loop-i

@@ -1,6 +1,5 @@
 use mathlib.Core.Path.{sym}
 use lib.Seq.{length-take-le}
-use borrow.Author.Rules.{rules}
 use Rattle.chars.specs.Lists.{begins}
 use Rattle.chars.proofs.SameTexts.{begins_short}
 use Rattle.chars.proofs.texts.begins.Goals as goal

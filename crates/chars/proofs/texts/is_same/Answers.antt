@@ -1,8 +1,5 @@
-use Prim.Native.Nat.{◌-◌, ◌≤◌}
-use mathlib.Core.Path.{◌≡◌, sym, refl, ◌∙◌}
+use mathlib.Core.Path.{sym, refl, ◌∙◌}
 use native.Mathlib.Omega.{arith}
-use lib.ListN.{length, drop}
-use Rattle.chars.specs.Lists.{same}
 use Rattle.chars.proofs.SameTexts.{same_lengths, same_miss, same_hit, same_end}
 use Rattle.chars.proofs.texts.is_same.Goals as goal
 

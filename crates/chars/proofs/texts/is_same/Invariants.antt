@@ -1,9 +1,7 @@
 use Prim.Native.Nat.{◌-◌, ◌≤◌}
-use mathlib.Core.Path.{◌≡◌, sym, refl, ◌∙◌}
-use native.Mathlib.Omega.{arith}
+use mathlib.Core.Path.{◌≡◌}
 use lib.ListN.{length, drop}
 use Rattle.chars.specs.Lists.{same}
-use Rattle.chars.proofs.SameTexts.{same_lengths, same_miss, same_hit, same_end}
 use Rattle.chars.proofs.texts.is_same.Given as goal
 
 abbrev pub invariant-loop-i : goal.invariant-loop-i

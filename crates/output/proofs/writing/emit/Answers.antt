@@ -1,6 +1,5 @@
 use mathlib.Core.Path.{refl}
 use native.Mathlib.Omega.{arith}
-use borrow.Author.Rules.{rules}
 use Rattle.output.proofs.writing.emit.Goals as goal
 
 pub returns-then-out-next : goal.returns-then-out-next

@@ -2,7 +2,6 @@ use mathlib.Core.Path.{◌∙◌, refl}
 use mathlib.Core.List.{[]}
 use native.Mathlib.Nat.{zero-add}
 use lib.ListN.{length}
-use borrow.Author.Rules.{rules}
 use Rattle.base.specs.Buffer.{splice}
 use Rattle.output.specs.Answers.{Text}
 use Rattle.output.proofs.Answering.{answer_short, answer_bytes}
