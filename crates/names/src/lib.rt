@@ -1,4 +1,6 @@
 // Names: part names, item names, media types, extensions, ids, IRIs.
+#![tactic(auto)]
+
 pub mod iris;
 pub mod items;
 pub mod members;

@@ -1,0 +1,7 @@
+use Rattle.names.specs.Iris.{colon_first}
+use borrow.Author.Rules.{rules}
+use Rattle.names.proofs.iris.has_colon_first.Goals as goal
+
+pub returns : goal.returns
+unfolding colon_first
+returns c = rw (c.byte_at.ensures, c.first_member.ensures)

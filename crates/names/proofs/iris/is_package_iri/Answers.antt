@@ -1,0 +1,7 @@
+use Rattle.names.specs.Iris.{package_iri}
+use borrow.Author.Rules.{rules}
+use Rattle.names.proofs.iris.is_package_iri.Goals as goal
+
+pub returns : goal.returns
+unfolding package_iri
+returns c = rw (c.has_colon_first.ensures, c.is_iri.ensures)

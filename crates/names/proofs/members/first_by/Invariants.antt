@@ -1,0 +1,16 @@
+use mathlib.Core.Path.{◌≡◌, sym, ◌∙◌}
+use Prim.Native.Nat.{◌+◌, ◌-◌}
+use native.Mathlib.Nat.{zero-add}
+use native.Mathlib.Omega.{arith}
+use lib.ListN.{length, drop}
+use borrow.Author.Rules.{rules}
+use Rattle.chars.specs.Bytes.{member}
+use Rattle.chars.specs.Lists.{first_passing}
+use Rattle.chars.proofs.Searches.{first_hit, first_miss, first_end_lem}
+use Rattle.names.proofs.members.first_by.Given as goal
+
+abbrev pub invariant-loop-i : goal.invariant-loop-i
+invariant-loop-i l = first_passing (member l.a) l.s ≡ l.i + first_passing (member l.a) (drop l.i l.s)
+
+abbrev pub decreases-loop-i : goal.decreases-loop-i
+decreases-loop-i l = length l.s - l.i

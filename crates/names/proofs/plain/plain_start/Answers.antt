@@ -1,0 +1,25 @@
+use mathlib.Core.Path.{◌≡◌, refl, sym, ◌∙◌}
+use mathlib.Core.Bool.{true}
+use Prim.Native.Nat.{◌-◌, ◌≤◌}
+use native.Mathlib.Omega.{arith}
+use lib.ListN.{length, take}
+use borrow.Author.Rules.{rules}
+use Rattle.chars.specs.Lists.{every}
+use Rattle.names.specs.PlainBytes.{plain}
+use Rattle.names.proofs.PlainBytes.{plain_none, plain_more}
+use Rattle.names.proofs.plain.plain_start.Goals as goal
+
+pub returns-then-n-lt8 : goal.returns-then-n-lt8
+returns-then-n-lt8 c = plain_none
+
+pub loop-i-init : goal.loop-i-init
+loop-i-init c = (omega arith, plain_none)
+
+pub loop-i-preserved : goal.loop-i-preserved
+loop-i-preserved c = (omega arith, plain_more _ _ _ c.smaller-at.ensures.1 c.loop-i.invariant.1 (sym c.is_plain_eight.ensures ∙ c.if-is_plain_eight.true))
+
+pub returns-else-is_plain_eight : goal.returns-else-is_plain_eight
+returns-else-is_plain_eight c = c.loop-i.invariant.1
+
+pub returns : goal.returns
+returns c = c.loop-i.invariant.1

@@ -1,0 +1,17 @@
+use mathlib.Core.Path.{◌≡◌, sym, ◌∙◌}
+use Prim.Native.Nat.{◌-◌, ◌≤◌}
+use native.Mathlib.Omega.{arith}
+use lib.ListN.{length, drop}
+use Rattle.chars.specs.Bytes.{semicolon}
+use Rattle.chars.specs.Lists.{split}
+use Rattle.names.specs.Types.{type_and_parameters}
+use Rattle.names.specs.Reading.{Parts}
+use Rattle.names.proofs.Tokens.{slash_parts, equals_parts}
+use Rattle.names.proofs.Media.{headed, type_headed, stretches_not, stretches_within, stretches_last, stretches_more}
+use Rattle.names.proofs.types.is_type_and_parameters.Given as goal
+
+abbrev pub invariant-loop-i : goal.invariant-loop-i
+invariant-loop-i l = (l.i ≤ length l.s) × (type_and_parameters (split semicolon l.s) ≡ headed l.b (split semicolon (drop l.i l.s))) × Parts l.b
+
+abbrev pub decreases-loop-i : goal.decreases-loop-i
+decreases-loop-i l = length l.s - l.i

@@ -1,0 +1,7 @@
+use Rattle.chars.specs.Characters.{char2}
+use borrow.Author.Rules.{rules}
+use Rattle.names.proofs.units.is_char2.Goals as goal
+
+pub returns : goal.returns
+unfolding char2
+returns c = cc
