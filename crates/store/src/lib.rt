@@ -1,4 +1,6 @@
 // Rows in one lent buffer: how a package is stored.
+#![tactic(auto)]
+
 pub mod bytes;
 pub mod changes;
 mod ends;

@@ -1,0 +1,57 @@
+use mathlib.Core.Path.{◌≡◌}
+use Prim.Native.Nat.{ℕ, ◌+◌, ◌-◌}
+use native.Mathlib.Omega.{arith}
+use borrow.Author.Rules.{rules}
+use Rattle.store.proofs.Lasting.{no_gap}
+use Rattle.store.proofs.PassedSlots.{pass_enough, pass_used}
+use Rattle.store.proofs.Passed.{passed_on}
+use Rattle.store.proofs.changes.pass_back.Goals as goal
+use Rattle.store.proofs.changes.pass_back.Goals.{After-send-arg-1}
+
+pub returns-then-from-n : goal.returns-then-from-n
+returns-then-from-n c = record { is = λ so en eu last cl pa. absurd (omega (arith, c.if-from-n.true, pass_enough _ _ _ _ _ _ so pa c.number-from.ensures.0 c.number-to.ensures.0)) }
+
+pub returns-then-u-to : goal.returns-then-u-to
+returns-then-u-to c = record { is = λ so en eu last cl pa. absurd (omega (arith, c.if-u-to.true, eu, pass_used _ _ _ _ _ _ so pa c.number-from.ensures.0 c.number-to.ensures.0)) }
+
+pub returns-then-e-s : goal.returns-then-e-s
+returns-then-e-s c =
+    record {
+      is = λ so en eu last cl pa. absurd (omega (arith, c.if-e-s.true, so.inside _ pa.from, c.size.ensures.0, c.offset.ensures.0, c.get4-e.ensures.0));
+    }
+
+pub returns-then-h-e : goal.returns-then-h-e
+returns-then-h-e c =
+    record {
+      is = λ so en eu last cl pa. absurd (omega (arith, c.if-h-e.true, so.shape.within, c.get4-e.ensures, c.heap_size-h.ensures));
+    }
+
+pub returns-then-h-e-2 : goal.returns-then-h-e-2
+returns-then-h-e-2 c = record { is = λ so en eu last cl pa. absurd (no_gap _ _ _ _ _ _ cl c.get4-e.ensures.0 eu c.heap_size-h.ensures (omega arith) c.if-h-e-2.true) }
+
+pub overflow_sub-s : goal.overflow_sub-s
+overflow_sub-s c = search rules
+
+pub returns : goal.returns
+returns c =
+    let a = c.args in
+    let x : ℕ = c.offset.result + c.size.result - a.n in
+    let ends : x + a.n ≡ c.offset.result + c.size.result = omega (arith, overflow_sub-s (goal.at.returns c).After-send-arg-1) in
+    record {
+      is = λ so en eu last cl pa. passed_on (record {
+        so = so;
+        en = en;
+        ee = c.get4-e.ensures.0;
+        pa = pa;
+        last = last;
+        ef = c.number-from.ensures.0;
+        et = c.number-to.ensures.0;
+        small = c.number-from.ensures.1;
+        ex = omega (arith, ends, c.size.ensures.0, c.offset.ensures.0);
+        hx = omega (arith, overflow_sub-s (goal.at.returns c).After-send-arg-1, c.if-e-s.false);
+        sent = c.send.ensures;
+        len = omega arith;
+        w1 = c.put4.ensures;
+        w2 = c.put4-2.ensures;
+      });
+    }

@@ -1,0 +1,6 @@
+use Rattle.store.proofs.Reading.{field_at}
+use borrow.Author.Rules.{rules}
+use Rattle.store.proofs.rows.field.Goals as goal
+
+pub returns : goal.returns
+returns c = field_at _ _ _ _ _ c.field_place-s.ensures

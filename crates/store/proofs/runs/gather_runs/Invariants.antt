@@ -1,0 +1,13 @@
+use Prim.Native.Nat.{◌≤◌, ◌-◌}
+use native.Mathlib.Omega.{arith}
+use Rattle.store.proofs.Ordering.{named_low}
+use Rattle.store.proofs.Carrying.{carry_left}
+use Rattle.store.proofs.Taking.{Run, run_none, row_behind, row_inside, run_more, run_all}
+use borrow.Author.Rules.{rules}
+use Rattle.store.proofs.runs.gather_runs.Given as goal
+
+abbrev pub invariant-loop-j : goal.invariant-loop-j
+invariant-loop-j l = (l.j ≤ l.n) × Run l.initial.pkg l.pkg l.t l.n l.e l.c l.a l.q l.j
+
+abbrev pub decreases-loop-j : goal.decreases-loop-j
+decreases-loop-j l = l.n - l.j
