@@ -8,7 +8,7 @@ use chars::search::{Alphabet, find};
 use names::members::first_member;
 
 // Where the first four components end. The fragment goes on to the end.
-#[derive(Drop)]
+#[derive(Clone, Copy)]
 pub struct Parts {
     pub scheme: usize,
     pub authority: usize,
