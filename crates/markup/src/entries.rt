@@ -12,14 +12,14 @@ use crate::decoding::means;
 use chars::texts::is_same;
 
 // The streams that are read.
-#[derive(Drop)]
+#[derive(Clone, Copy)]
 pub enum Kind {
     Types,
     Relationships,
 }
 
 // Where a value stands between its quote marks.
-#[derive(Drop)]
+#[derive(Clone, Copy)]
 pub(crate) enum Value {
     Is { from: usize, to: usize },
     Missing,

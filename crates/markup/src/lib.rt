@@ -1,4 +1,6 @@
 // Streams of XML, read from left to right: marks, tags, elements.
+#![tactic(auto)]
+
 pub mod attributes;
 pub mod comments;
 pub mod decoding;

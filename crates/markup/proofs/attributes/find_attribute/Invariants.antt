@@ -1,0 +1,14 @@
+use Prim.Native.Nat.{◌-◌, ◌≤◌}
+use mathlib.Core.Path.{◌≡◌}
+use native.Mathlib.Omega.{arith}
+use lib.ListN.{length, drop}
+use borrow.Author.Rules.{rules}
+use Rattle.markup.specs.Tags.{attributes_at, attribute_named}
+use Rattle.markup.proofs.AttributeWalks.{given_within, sought_begin, sought_end, sought_none, sought_here, sought_on}
+use Rattle.markup.proofs.attributes.find_attribute.Given as goal
+
+abbrev pub invariant-loop-k : goal.invariant-loop-k
+invariant-loop-k l = (l.at ≤ l.i) × (l.i ≤ length l.s) × (attribute_named l.wanted (attributes_at l.count (drop l.at l.s)) ≡ attribute_named l.wanted (attributes_at (l.count - l.k) (drop l.i l.s)))
+
+abbrev pub decreases-loop-k : goal.decreases-loop-k
+decreases-loop-k l = l.count - l.k

@@ -1,0 +1,20 @@
+use mathlib.Core.Path.{sym, ◌∙◌}
+use Prim.Native.Nat.{◌-◌}
+use native.Mathlib.Omega.{arith}
+use lib.ListN.{length, drop}
+use borrow.Author.Rules.{rules}
+use borrow.Author.Tests.{not-true, not-false}
+use Rattle.markup.specs.Elements.{between}
+use Rattle.markup.specs.Walks.{Reached}
+use Rattle.markup.proofs.Gaps.{Came, came_none, came_end, came_off, came_on}
+use Rattle.markup.proofs.comments.between.Given as goal
+
+abbrev pub invariant-loop-at : goal.invariant-loop-at
+invariant-loop-at l =
+    -- PARAMS ['s', 'at', 'text', 'i₀', 'mark', 'i'] vs ['l.s', 'l.at', 'l.text', 'l.initial.i', 'l.i']
+Reached l.s l.at i × Came l.s i l.text (between l.text (drop l.at l.s))
+
+abbrev pub decreases-loop-at : goal.decreases-loop-at
+decreases-loop-at l =
+    -- PARAMS ['s', 'at', 'text', 'i₀', 'mark', 'i'] vs ['l.s', 'l.at', 'l.text', 'l.initial.i', 'l.i']
+length l.s - i

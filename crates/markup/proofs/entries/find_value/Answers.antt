@@ -1,0 +1,9 @@
+use borrow.Author.Rules.{rules}
+use Rattle.markup.proofs.EntryValues.{value_given, value_missing}
+use Rattle.markup.proofs.entries.find_value.Goals as goal
+
+pub returns-in-Given : goal.returns-in-Given
+returns-in-Given c = value_given _ _ _ _ c.find_attribute.ensures _ _ _ _ _ c.from-1.given.1
+
+pub returns-in-Missing : goal.returns-in-Missing
+returns-in-Missing c = value_missing _ _ _ _ c.find_attribute.ensures c.enum_told-1.given.1

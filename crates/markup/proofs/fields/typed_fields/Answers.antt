@@ -1,0 +1,18 @@
+use borrow.Author.Rules.{rules}
+use Rattle.markup.proofs.FieldTexts.{entry_within, typed_is, typed_none, typed_other}
+use Rattle.markup.proofs.fields.typed_fields.Goals as goal
+
+pub field-requires : goal.field-requires
+field-requires c = ((entry_within c.entry_at.ensures c.default-1.given.1).0, c.requires.1)
+
+pub field-requires-in-Typed : goal.field-requires-in-Typed
+field-requires-in-Typed c = ((entry_within c.entry_at.ensures c.default-1.given.1).1, c.requires.2)
+
+pub returns-in-Typed : goal.returns-in-Typed
+returns-in-Typed c = typed_is c.entry_at.ensures c.default-1.given.1 c.field.ensures c.field-in-Typed.ensures
+
+pub returns-in-Related : goal.returns-in-Related
+returns-in-Related c = typed_other c.entry_at.ensures (c.requires.1, c.requires.2) c.enum_told-1.given.1
+
+pub returns-in-NoEntry : goal.returns-in-NoEntry
+returns-in-NoEntry c = typed_none c.entry_at.ensures (c.requires.1, c.requires.2) c.enum_told-in-NoEntry-1.given.1

@@ -1,0 +1,18 @@
+use mathlib.Core.Path.{◌≡◌, refl, sym, ap, ◌∙◌}
+use mathlib.Core.Bool.{not}
+use Prim.Native.Nat.{ℕ, ◌+◌, ◌-◌}
+use native.Mathlib.Omega.{arith}
+use lib.ListN.{length, drop}
+use borrow.Author.Rules.{rules}
+use Rattle.chars.specs.Bytes.{member}
+use Rattle.chars.specs.Lists.{first_not}
+use Rattle.chars.specs.declared.search.Alphabet.TheVariants.{Id}
+use Rattle.chars.proofs.Searches.{first_hit, first_miss, first_end_lem}
+use Rattle.markup.specs.Walks.{Reached}
+use Rattle.markup.proofs.names.name_bytes_end.Given as goal
+
+abbrev pub invariant-loop-i : goal.invariant-loop-i
+invariant-loop-i l = Reached l.s l.at l.i × (l.at + first_not (member Id) (drop l.at l.s) ≡ l.i + first_not (member Id) (drop l.i l.s))
+
+abbrev pub decreases-loop-i : goal.decreases-loop-i
+decreases-loop-i l = length l.s - l.i

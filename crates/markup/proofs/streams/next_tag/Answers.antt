@@ -1,0 +1,29 @@
+use Prim.Native.Nat.{◌-◌}
+use native.Mathlib.Omega.{arith}
+use lib.ListN.{length}
+use borrow.Author.Rules.{rules}
+use Rattle.markup.proofs.RootPieces.{Coming, came_none, step_past, came_passed, came_tag, came_over, came_bad}
+use Rattle.markup.proofs.streams.next_tag.Goals as goal
+
+pub loop-next-init : goal.loop-next-init
+loop-next-init c = came_none c.requires
+
+pub next_step-requires : goal.next_step-requires
+next_step-requires c = c.loop-next.invariant.to
+
+pub loop-next-smaller : goal.loop-next-smaller
+loop-next-smaller c =
+    let n = step_past c.loop-next.invariant c.next_step.ensures c.next-1.given.1 in
+    omega (arith, n.0, n.1)
+
+pub loop-next-preserved : goal.loop-next-preserved
+loop-next-preserved c = came_passed c.loop-next.invariant c.next_step.ensures c.next-1.given.1
+
+pub returns-in-Unprefixed : goal.returns-in-Unprefixed
+returns-in-Unprefixed c = came_tag c.loop-next.invariant c.next_step.ensures c.t-1.given.1
+
+pub returns-in-Over : goal.returns-in-Over
+returns-in-Over c = came_over c.loop-next.invariant c.next_step.ensures c.n-1.given.1
+
+pub returns-in-Bad : goal.returns-in-Bad
+returns-in-Bad c = came_bad c.loop-next.invariant c.next_step.ensures c.n-in-Bad-1.given.1
