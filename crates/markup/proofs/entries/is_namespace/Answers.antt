@@ -12,19 +12,19 @@ part_means_end_2 : tie.Need-slice-bounds-means-end-2
 part_means_end_2 c = let at_v = c.before.before.before in (value_within _ _ _ _ at_v.v.given.1 at_v.before.before.before.requires).1
 
 pub slice_bounds-means-count : goal.slice_bounds-means-count
-slice_bounds-means-count c = (value_within _ _ _ _ c.v-1.given.1 c.requires).0
+slice_bounds-means-count c = (value_within _ _ _ _ c.in-Is.is c.requires).0
 
 pub slice_bounds-means-start : goal.slice_bounds-means-start
-slice_bounds-means-start c = (value_within _ _ _ _ c.v-1.given.1 c.requires).0
+slice_bounds-means-start c = (value_within _ _ _ _ c.in-Is.is c.requires).0
 
 pub slice_bounds-means-end : goal.slice_bounds-means-end
-slice_bounds-means-end c = (value_within _ _ _ _ c.v-1.given.1 c.requires).1
+slice_bounds-means-end c = (value_within _ _ _ _ c.in-Is.is c.requires).1
 
 pub slice_bounds-means-count-in-Relationships : goal.slice_bounds-means-count-in-Relationships
-slice_bounds-means-count-in-Relationships c = (value_within _ _ _ _ c.v-1.given.1 c.requires).0
+slice_bounds-means-count-in-Relationships c = (value_within _ _ _ _ c.in-Is.is c.requires).0
 
 pub returns-in-Types : goal.returns-in-Types
-returns-in-Types c = namespace_is _ _ _ _ c.v-1.given.1 _ Types c.enum_told-in-Types-1.given.1 _ c.means.ensures
+returns-in-Types c = namespace_is _ _ _ _ c.in-Is.is _ Types c.in-Types.is _ c.means.ensures
 
 pub returns-in-Relationships : goal.returns-in-Relationships
-returns-in-Relationships c = namespace_is _ _ _ _ c.v-1.given.1 _ Relationships c.enum_told-in-Relationships-1.given.1 _ c.means-in-Relationships.ensures
+returns-in-Relationships c = namespace_is _ _ _ _ c.in-Is.is _ Relationships c.in-Relationships.is _ c.means-in-Relationships.ensures

@@ -6,7 +6,7 @@ use Rattle.markup.specs.declared.entries.Kind.{Kind}
 use Rattle.markup.proofs.entries.is_root_name.Goals as goal
 
 pub returns-in-Types : goal.returns-in-Types
-returns-in-Types c = c.is_same.ensures ∙ ap (λ (k : Kind). same c.args.name.now (root_name k)) (sym c.enum_told-1.given.1)
+returns-in-Types c = c.is_same.ensures ∙ ap (λ (k : Kind). same c.args.name.now (root_name k)) (sym c.in-Types.is)
 
 pub returns-in-Relationships : goal.returns-in-Relationships
-returns-in-Relationships c = c.is_same-in-Relationships.ensures ∙ ap (λ (k : Kind). same c.args.name.now (root_name k)) (sym c.enum_told-in-Relationships-1.given.1)
+returns-in-Relationships c = c.is_same-in-Relationships.ensures ∙ ap (λ (k : Kind). same c.args.name.now (root_name k)) (sym c.in-Relationships.is)

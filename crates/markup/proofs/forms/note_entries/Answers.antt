@@ -19,14 +19,14 @@ overflow_add-n c = record { fits = omega (arith, c.loop-at.invariant.few) }
 
 pub loop-at-smaller : goal.loop-at-smaller
 loop-at-smaller c =
-    let w = next_reach c.next_entry.ensures c.at-1.given.1 in
+    let w = next_reach c.next_entry.ensures c.in-Entered.is in
     omega (arith, w.0, w.1)
 
 pub loop-at-preserved : goal.loop-at-preserved
-loop-at-preserved c = gone_entered c.loop-at.invariant c.next_entry.ensures c.at-1.given.1 _ c.note.ensures
+loop-at-preserved c = gone_entered c.loop-at.invariant c.next_entry.ensures c.in-Entered.is _ c.note.ensures
 
 pub returns-in-Done : goal.returns-in-Done
-returns-in-Done c = gone_done c.loop-at.invariant c.next_entry.ensures c.e-1.given.1
+returns-in-Done c = gone_done c.loop-at.invariant c.next_entry.ensures c.in-Done.is
 
 pub returns-in-Unfit : goal.returns-in-Unfit
-returns-in-Unfit c = gone_unfit c.loop-at.invariant c.next_entry.ensures c.k-1.given.1
+returns-in-Unfit c = gone_unfit c.loop-at.invariant c.next_entry.ensures c.in-Unfit.is

@@ -18,13 +18,13 @@ pub returns-then-not-is_blank : goal.returns-then-not-is_blank
 returns-then-not-is_blank c =
     let loop = c.loop-i in
     let test = ap not c.is_blank.ensures in
-    (loop.invariant.0, drop_past _ _ _ _ (sym (loop.invariant.1 ∙ first_hit (λ (x : ℕ). not (blank x)) _ _ _ c.loop-i-test.true test c.if-not-is_blank.true)))
+    (loop.invariant.0, drop_past _ _ _ _ (sym (loop.invariant.1 ∙ first_hit (λ (x : ℕ). not (blank x)) _ _ _ c.loop-i-test.true test (ap not c.if-not-is_blank.true))))
 
 pub loop-i-preserved : goal.loop-i-preserved
 loop-i-preserved c =
     let loop = c.loop-i in
     let test = ap not c.is_blank.ensures in
-    ((omega arith, omega arith), loop.invariant.1 ∙ first_miss (λ (x : ℕ). not (blank x)) _ _ _ c.loop-i-test.true test c.if-not-is_blank.false)
+    ((omega arith, omega arith), loop.invariant.1 ∙ first_miss (λ (x : ℕ). not (blank x)) _ _ _ c.loop-i-test.true test (ap not c.if-not-is_blank.false))
 
 pub returns : goal.returns
 returns c =

@@ -18,13 +18,13 @@ pub returns-then-not-is_name_byte : goal.returns-then-not-is_name_byte
 returns-then-not-is_name_byte c =
     let loop = c.loop-i in
     let test = ap not c.is_name_byte.ensures in
-    (loop.invariant.0, sym (loop.invariant.1 ∙ first_hit (λ (x : ℕ). not (member Id x)) _ _ _ c.loop-i-test.true test c.if-not-is_name_byte.true))
+    (loop.invariant.0, sym (loop.invariant.1 ∙ first_hit (λ (x : ℕ). not (member Id x)) _ _ _ c.loop-i-test.true test (ap not c.if-not-is_name_byte.true)))
 
 pub loop-i-preserved : goal.loop-i-preserved
 loop-i-preserved c =
     let loop = c.loop-i in
     let test = ap not c.is_name_byte.ensures in
-    ((omega arith, omega arith), loop.invariant.1 ∙ first_miss (λ (x : ℕ). not (member Id x)) _ _ _ c.loop-i-test.true test c.if-not-is_name_byte.false)
+    ((omega arith, omega arith), loop.invariant.1 ∙ first_miss (λ (x : ℕ). not (member Id x)) _ _ _ c.loop-i-test.true test (ap not c.if-not-is_name_byte.false))
 
 pub returns : goal.returns
 returns c =

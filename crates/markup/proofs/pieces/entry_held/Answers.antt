@@ -7,10 +7,10 @@ pub returns-then-empty : goal.returns-then-empty
 returns-then-empty c = holds_nothing c.requires.1 c.if-empty.true
 
 pub end_tag-requires : goal.end_tag-requires
-end_tag-requires c = ((content_at c.content.ensures c.e-1.given.1).1, c.requires.0)
+end_tag-requires c = ((content_at c.content.ensures c.in-At.is).1, c.requires.0)
 
 pub returns-in-At : goal.returns-in-At
-returns-in-At c = holds_on _ _ c.if-empty.false c.content.ensures c.e-1.given.1 c.end_tag.ensures
+returns-in-At c = holds_on _ _ c.if-empty.false c.content.ensures c.in-At.is c.end_tag.ensures
 
 pub returns-in-Off : goal.returns-in-Off
-returns-in-Off c = holds_off _ _ c.if-empty.false c.content.ensures c.n-1.given.1
+returns-in-Off c = holds_off _ _ c.if-empty.false c.content.ensures c.in-Off.is

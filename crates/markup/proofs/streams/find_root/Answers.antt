@@ -4,6 +4,8 @@ use native.Mathlib.Omega.{arith}
 use borrow.Author.Rules.{rules}
 use Rattle.markup.proofs.Rests.{walked_at, opens_within}
 use Rattle.markup.proofs.Roots.{stream_bad, stream_none, stream_rooted}
+use mathlib.Core.Bool.{not}
+use mathlib.Core.Path.{ap}
 use Rattle.markup.proofs.streams.find_root.Goals as goal
 
 -- the start tag stands before the end
@@ -12,13 +14,13 @@ before_end : (c : tie.Else1)
 before_end c = opens_within _ _ c.before.opens.ensures c.if1.false
 
 pub returns-in-Off : goal.returns-in-Off
-returns-in-Off c = stream_bad _ c.declaration_end.ensures c.between.ensures c.n-1.given.1
+returns-in-Off c = stream_bad _ c.declaration_end.ensures c.between.ensures c.in-Off.is
 
 pub opens-requires : goal.opens-requires
-opens-requires c = (walked_at c.between.ensures c.t-1.given.1).1
+opens-requires c = (walked_at c.between.ensures c.in-At.is).1
 
 pub returns-then-not-opens : goal.returns-then-not-opens
-returns-then-not-opens c = stream_none _ c.declaration_end.ensures c.between.ensures c.t-1.given.1 c.opens.ensures c.if-not-opens.true
+returns-then-not-opens c = stream_none _ c.declaration_end.ensures c.between.ensures c.in-At.is c.opens.ensures (ap not c.if-not-opens.true)
 
 pub overflow_add-t : goal.overflow_add-t
 overflow_add-t c = record { fits = omega (arith, before_end c) }
@@ -28,5 +30,5 @@ root_tag-requires c = before_end c
 
 pub returns : goal.returns
 returns c =
-    stream_rooted _ c.declaration_end.ensures c.between.ensures c.t-1.given.1 c.opens.ensures
-    c.if-not-opens.false c.root_tag_lem.ensures
+    stream_rooted _ c.declaration_end.ensures c.between.ensures c.in-At.is c.opens.ensures
+    (ap not c.if-not-opens.false) c.root_tag_lem.ensures

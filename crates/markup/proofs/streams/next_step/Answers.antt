@@ -4,6 +4,8 @@ use lib.ListN.{length}
 use borrow.Author.Rules.{rules}
 use Rattle.markup.proofs.Rests.{walked_at, opens_within}
 use Rattle.markup.proofs.RootPieces.{next_bad, next_over, next_passed, next_plain}
+use mathlib.Core.Bool.{not}
+use mathlib.Core.Path.{ap}
 use Rattle.markup.proofs.streams.next_step.Goals as goal
 
 -- the start tag stands before the end
@@ -12,13 +14,13 @@ before_end : (c : tie.Else1)
 before_end c = opens_within _ _ c.before.opens.ensures c.if1.false
 
 pub returns-in-Off : goal.returns-in-Off
-returns-in-Off c = next_bad c.between.ensures c.n-1.given.1
+returns-in-Off c = next_bad c.between.ensures c.in-Off.is
 
 pub opens-requires : goal.opens-requires
-opens-requires c = (walked_at c.between.ensures c.t-1.given.1).1
+opens-requires c = (walked_at c.between.ensures c.in-At.is).1
 
 pub returns-then-not-opens : goal.returns-then-not-opens
-returns-then-not-opens c = next_over c.between.ensures c.t-1.given.1 c.opens.ensures c.if-not-opens.true
+returns-then-not-opens c = next_over c.between.ensures c.in-At.is c.opens.ensures (ap not c.if-not-opens.true)
 
 pub overflow_add-t : goal.overflow_add-t
 overflow_add-t c = record { fits = omega (arith, before_end c) }
@@ -31,10 +33,10 @@ name_end-requires c = before_end c
 
 pub returns-then-is_prefixed : goal.returns-then-is_prefixed
 returns-then-is_prefixed c =
-    next_passed c.between.ensures c.t-1.given.1 c.opens.ensures c.if-not-opens.false
+    next_passed c.between.ensures c.in-At.is c.opens.ensures (ap not c.if-not-opens.false)
     c.name_end.ensures.1 c.is_prefixed.ensures c.if-is_prefixed.true c.passed_over.ensures
 
 pub returns : goal.returns
 returns c =
-    next_plain c.between.ensures c.t-1.given.1 c.opens.ensures c.if-not-opens.false
+    next_plain c.between.ensures c.in-At.is c.opens.ensures (ap not c.if-not-opens.false)
     c.name_end.ensures.1 c.is_prefixed.ensures c.if-is_prefixed.false

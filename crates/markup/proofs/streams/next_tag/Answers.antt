@@ -13,17 +13,17 @@ next_step-requires c = c.loop-next.invariant.to
 
 pub loop-next-smaller : goal.loop-next-smaller
 loop-next-smaller c =
-    let n = step_past c.loop-next.invariant c.next_step.ensures c.next-1.given.1 in
+    let n = step_past c.loop-next.invariant c.next_step.ensures c.in-Passed.is in
     omega (arith, n.0, n.1)
 
 pub loop-next-preserved : goal.loop-next-preserved
-loop-next-preserved c = came_passed c.loop-next.invariant c.next_step.ensures c.next-1.given.1
+loop-next-preserved c = came_passed c.loop-next.invariant c.next_step.ensures c.in-Passed.is
 
 pub returns-in-Unprefixed : goal.returns-in-Unprefixed
-returns-in-Unprefixed c = came_tag c.loop-next.invariant c.next_step.ensures c.t-1.given.1
+returns-in-Unprefixed c = came_tag c.loop-next.invariant c.next_step.ensures c.in-Unprefixed.is
 
 pub returns-in-Over : goal.returns-in-Over
-returns-in-Over c = came_over c.loop-next.invariant c.next_step.ensures c.n-1.given.1
+returns-in-Over c = came_over c.loop-next.invariant c.next_step.ensures c.in-Over.is
 
 pub returns-in-Bad : goal.returns-in-Bad
-returns-in-Bad c = came_bad c.loop-next.invariant c.next_step.ensures c.n-in-Bad-1.given.1
+returns-in-Bad c = came_bad c.loop-next.invariant c.next_step.ensures c.in-Bad.is

@@ -2,25 +2,27 @@ use native.Mathlib.Omega.{arith}
 use borrow.Author.Rules.{rules}
 use Rattle.markup.proofs.Rests.{tag_reach}
 use Rattle.markup.proofs.Roots.{root_tagless, root_other, root_empty, root_holds}
+use mathlib.Core.Bool.{not}
+use mathlib.Core.Path.{ap}
 use Rattle.markup.proofs.streams.root_tag.Goals as goal
 
 pub returns-in_default : goal.returns-in_default
-returns-in_default c = root_tagless _ c.start_tag.ensures c.enum_told-1.given.1
+returns-in_default c = root_tagless _ c.start_tag.ensures c.in_default.is
 
 pub is_root-requires : goal.is_root-requires
 is_root-requires c =
-    let v = tag_reach c.start_tag.ensures c.name_end-1.given.1 in
+    let v = tag_reach c.start_tag.ensures c.in-Opened.is in
     (omega arith, omega arith)
 
 pub returns-then-not-is_root : goal.returns-then-not-is_root
-returns-then-not-is_root c = root_other _ c.start_tag.ensures c.name_end-1.given.1 c.is_root_lem.ensures c.if-not-is_root.true
+returns-then-not-is_root c = root_other _ c.start_tag.ensures c.in-Opened.is c.is_root_lem.ensures (ap not c.if-not-is_root.true)
 
 pub returns-then-empty : goal.returns-then-empty
 returns-then-empty c =
-    root_empty _ c.start_tag.ensures c.name_end-1.given.1 c.is_root_lem.ensures
-    c.if-not-is_root.false c.if-empty.true
+    root_empty _ c.start_tag.ensures c.in-Opened.is c.is_root_lem.ensures
+    (ap not c.if-not-is_root.false) c.if-empty.true
 
 pub returns : goal.returns
 returns c =
-    root_holds _ c.start_tag.ensures c.name_end-1.given.1 c.is_root_lem.ensures
-    c.if-not-is_root.false c.if-empty.false
+    root_holds _ c.start_tag.ensures c.in-Opened.is c.is_root_lem.ensures
+    (ap not c.if-not-is_root.false) c.if-empty.false

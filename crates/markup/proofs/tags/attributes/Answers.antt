@@ -24,7 +24,7 @@ returns-then-k-eq-FEW c = c.many.ensures
 
 pub mark_of-m-requires : goal.mark_of-m-requires
 mark_of-m-requires c =
-    let w = given_within _ _ _ c.attribute_behind.ensures _ _ _ _ _ c.name-1.given.1 in
+    let w = given_within _ _ _ c.attribute_behind.ensures _ _ _ _ _ c.in-Given.is in
     (omega (arith, w.1), omega (arith, w.2, w.3, w.4, w.5))
 
 pub bounds-marks-m : goal.bounds-marks-m
@@ -32,7 +32,7 @@ bounds-marks-m c = c.mark_of-m.ensures.1
 
 pub is_repeated-requires : goal.is_repeated-requires
 is_repeated-requires c =
-    let w = given_within _ _ _ c.attribute_behind.ensures _ _ _ _ _ c.name-1.given.1 in (
+    let w = given_within _ _ _ c.attribute_behind.ensures _ _ _ _ _ c.in-Given.is in (
       c.requires,
       (omega (arith, w.1), omega (arith, w.2, w.3, w.4, w.5)),
       λ f. listing_new _ _ _ _ _ c.loop-name.invariant _ _ c.mark_of-m.ensures.0 f,
@@ -40,7 +40,7 @@ is_repeated-requires c =
 
 pub returns-then-is_repeated : goal.returns-then-is_repeated
 returns-then-is_repeated c =
-    listing_repeated _ _ _ _ _ c.loop-name.invariant _ c.attribute_behind.ensures _ _ _ _ _ c.name-1.given.1
+    listing_repeated _ _ _ _ _ c.loop-name.invariant _ c.attribute_behind.ensures _ _ _ _ _ c.in-Given.is
     (sym c.is_repeated.ensures ∙ c.if-is_repeated.true)
 
 pub bounds-marks-m-in-Given : goal.bounds-marks-m-in-Given
@@ -48,20 +48,20 @@ bounds-marks-m-in-Given c = c.mark_of-m.ensures.1
 
 pub overflow_add-k : goal.overflow_add-k
 overflow_add-k c =
-    let w = given_within _ _ _ c.attribute_behind.ensures _ _ _ _ _ c.name-1.given.1 in
+    let w = given_within _ _ _ c.attribute_behind.ensures _ _ _ _ _ c.in-Given.is in
     record { fits = omega (arith, w.0, w.1, w.2, w.3, w.4, w.5, c.loop-name.invariant.from) }
 
 pub loop-name-smaller : goal.loop-name-smaller
 loop-name-smaller c =
-    let w = given_within _ _ _ c.attribute_behind.ensures _ _ _ _ _ c.name-1.given.1 in
+    let w = given_within _ _ _ c.attribute_behind.ensures _ _ _ _ _ c.in-Given.is in
     omega (arith, w.0, w.1, w.2, w.3, w.4, w.5)
 
 pub loop-name-preserved : goal.loop-name-preserved
 loop-name-preserved c =
-    listing_more _ _ _ _ _ c.loop-name.invariant _ c.attribute_behind.ensures _ _ _ _ _ c.name-1.given.1 _
+    listing_more _ _ _ _ _ c.loop-name.invariant _ c.attribute_behind.ensures _ _ _ _ _ c.in-Given.is _
     c.mark_of-m.ensures.0 c.mark_of-m.ensures.1 (sym c.is_repeated.ensures ∙ c.if-is_repeated.false)
 
 pub returns-in-Missing : goal.returns-in-Missing
 returns-in-Missing c =
-    listing_all _ _ _ _ _ c.loop-name.invariant _ c.attribute_behind.ensures c.enum_told-1.given.1 _
+    listing_all _ _ _ _ _ c.loop-name.invariant _ c.attribute_behind.ensures c.in-Missing.is _
     c.blanks_end-behind.ensures.0 c.blanks_end-behind.ensures.1

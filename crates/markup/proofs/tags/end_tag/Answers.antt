@@ -1,32 +1,33 @@
-use mathlib.Core.Path.{sym, ◌∙◌}
+use mathlib.Core.Path.{sym, ◌∙◌, ap}
 use borrow.Author.Rules.{rules}
 use borrow.Author.Tests.{not-true, not-false}
 use Rattle.base.specs.Buffer.{part}
 use Rattle.chars.specs.Bytes.{ascii}
 use Rattle.markup.proofs.Rests.{stands_within}
 use Rattle.markup.proofs.TagEnds.{end_none, end_off, name_reached, end_on}
+use mathlib.Core.Bool.{not}
 use Rattle.markup.proofs.tags.end_tag.Goals as goal
 
 pub returns-then-not-stands : goal.returns-then-not-stands
-returns-then-not-stands c = end_none _ _ c.requires.0 _ _ c.stands.ensures (not-true _ c.if-not-stands.true)
+returns-then-not-stands c = end_none _ _ c.requires.0 _ _ c.stands.ensures (not-true _ (ap not c.if-not-stands.true))
 
 pub expected-requires : goal.expected-requires
-expected-requires c = stands_within _ _ (ascii "</") c.requires.0 (sym c.stands.ensures ∙ not-false _ c.if-not-stands.false)
+expected-requires c = stands_within _ _ (ascii "</") c.requires.0 (sym c.stands.ensures ∙ not-false _ (ap not c.if-not-stands.false))
 
 pub blanks_end-requires : goal.blanks_end-requires
 unfolding part
 blanks_end-requires c =
-    (name_reached _ _ c.requires.0 _ _ c.stands.ensures (not-false _ c.if-not-stands.false) _
-    c.expected.ensures _ c.e-1.given.1).1
+    (name_reached _ _ c.requires.0 _ _ c.stands.ensures (not-false _ (ap not c.if-not-stands.false)) _
+    c.expected.ensures _ c.in-At.is).1
 
 pub returns-in-At : goal.returns-in-At
 unfolding part
 returns-in-At c =
-    end_on _ _ c.requires.0 _ _ c.stands.ensures (not-false _ c.if-not-stands.false) _
-    c.expected.ensures _ c.e-1.given.1 _ c.blanks_end.ensures _ c.expected-in-At.ensures
+    end_on _ _ c.requires.0 _ _ c.stands.ensures (not-false _ (ap not c.if-not-stands.false)) _
+    c.expected.ensures _ c.in-At.is _ c.blanks_end.ensures _ c.expected-in-At.ensures
 
 pub returns-in-Off : goal.returns-in-Off
 unfolding part
 returns-in-Off c =
-    end_off _ _ c.requires.0 _ _ c.stands.ensures (not-false _ c.if-not-stands.false) _
-    c.expected.ensures _ c.n-1.given.1
+    end_off _ _ c.requires.0 _ _ c.stands.ensures (not-false _ (ap not c.if-not-stands.false)) _
+    c.expected.ensures _ c.in-Off.is

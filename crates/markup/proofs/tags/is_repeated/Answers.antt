@@ -1,14 +1,15 @@
-use mathlib.Core.Path.{sym}
+use mathlib.Core.Path.{sym, ap}
 use borrow.Author.Rules.{rules}
 use borrow.Author.Tests.{not-true}
 use Rattle.markup.proofs.AttributeWalks.{named_given, named_missing}
+use mathlib.Core.Bool.{not}
 use Rattle.markup.proofs.tags.is_repeated.Goals as goal
 
 pub returns-then-not-marked : goal.returns-then-not-marked
-returns-then-not-marked c = sym (c.requires.2 (not-true _ c.if-not-marked.true))
+returns-then-not-marked c = sym (c.requires.2 (not-true _ (ap not c.if-not-marked.true)))
 
 pub returns-in-Given : goal.returns-in-Given
-returns-in-Given c = named_given _ _ _ _ _ _ c.find_attribute.ensures _ _ _ _ _ c.enum_told-1.given.1
+returns-in-Given c = named_given _ _ _ _ _ _ c.find_attribute.ensures _ _ _ _ _ c.in-Given.is
 
 pub returns-in-Missing : goal.returns-in-Missing
-returns-in-Missing c = named_missing _ _ _ _ _ _ c.find_attribute.ensures c.enum_told-in-Missing-1.given.1
+returns-in-Missing c = named_missing _ _ _ _ _ _ c.find_attribute.ensures c.in-Missing.is

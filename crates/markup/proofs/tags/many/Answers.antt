@@ -12,11 +12,11 @@ pub read_chunk-requires : goal.read_chunk-requires
 read_chunk-requires c = c.loop-count.invariant.to
 
 pub blanks_end-requires : goal.blanks_end-requires
-blanks_end-requires c = (chunked_read _ _ _ c.read_chunk.ensures _ _ c.count-1.given.1).within.1
+blanks_end-requires c = (chunked_read _ _ _ c.read_chunk.ensures _ _ c.in-Read.is).within.1
 
 pub returns-then-count-eq0 : goal.returns-then-count-eq0
 returns-then-count-eq0 c =
-    let read = chunked_read _ _ _ c.read_chunk.ensures _ _ c.count-1.given.1 in
+    let read = chunked_read _ _ _ c.read_chunk.ensures _ _ c.in-Read.is in
     record {
       end = _;
       listed = reading_all _ _ _ _ c.loop-count.invariant _ _ read c.if-count-eq0.true;
@@ -26,18 +26,18 @@ returns-then-count-eq0 c =
 
 pub overflow_add-k : goal.overflow_add-k
 overflow_add-k c =
-    let read = chunked_read _ _ _ c.read_chunk.ensures _ _ c.count-1.given.1 in
+    let read = chunked_read _ _ _ c.read_chunk.ensures _ _ c.in-Read.is in
     record { fits = omega (arith, read.within.0, read.within.1, c.loop-count.invariant.from) }
 
 pub loop-count-smaller : goal.loop-count-smaller
 loop-count-smaller c =
-    let read = chunked_read _ _ _ c.read_chunk.ensures _ _ c.count-1.given.1 in
+    let read = chunked_read _ _ _ c.read_chunk.ensures _ _ c.in-Read.is in
     omega (arith, read.within.0, read.within.1, c.if-count-eq0.false)
 
 pub loop-count-preserved : goal.loop-count-preserved
 loop-count-preserved c =
-    let read = chunked_read _ _ _ c.read_chunk.ensures _ _ c.count-1.given.1 in
+    let read = chunked_read _ _ _ c.read_chunk.ensures _ _ c.in-Read.is in
     reading_more _ _ _ _ c.loop-count.invariant _ _ read
 
 pub returns-in-Twice : goal.returns-in-Twice
-returns-in-Twice c = reading_twice _ _ _ _ c.loop-count.invariant (chunked_twice _ _ _ c.read_chunk.ensures c.enum_told-1.given.1)
+returns-in-Twice c = reading_twice _ _ _ _ c.loop-count.invariant (chunked_twice _ _ _ c.read_chunk.ensures c.in-Twice.is)

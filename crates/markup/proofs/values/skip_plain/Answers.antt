@@ -1,9 +1,10 @@
-use mathlib.Core.Path.{◌≡◌, refl, ◌∙◌}
+use mathlib.Core.Path.{◌≡◌, refl, ◌∙◌, ap}
 use Prim.Native.Nat.{◌-◌, ◌≤◌}
 use native.Mathlib.Omega.{arith}
 use lib.ListN.{length, drop}
 use borrow.Author.Tests.{not-false}
 use Rattle.markup.specs.Marks.{quotable}
+use mathlib.Core.Bool.{not}
 use Rattle.markup.proofs.values.skip_plain.Goals as goal
 
 pub loop-i-init : goal.loop-i-init
@@ -16,7 +17,7 @@ pub returns-then-not-are_plain : goal.returns-then-not-are_plain
 returns-then-not-are_plain c = c.loop-i.invariant
 
 pub loop-i-preserved : goal.loop-i-preserved
-loop-i-preserved c = (omega arith, c.loop-i.invariant.1 ∙ c.are_plain.ensures (not-false _ c.if-not-are_plain.false))
+loop-i-preserved c = (omega arith, c.loop-i.invariant.1 ∙ c.are_plain.ensures (not-false _ (ap not c.if-not-are_plain.false)))
 
 pub returns : goal.returns
 returns c = c.loop-i.invariant
