@@ -92,16 +92,16 @@ module _ (K : Kind) {s : List ℕ} {at : ℕ} {r : Tagged} (tag : TagAt s at r) 
     entry_judged f x q = ap (judging f) (sym (ap (of_entered s) q) ∙ entered.is empty) ∙ entry_read f (Opened end count next empty) e
 
     -- it is no entry
-    pub entry_none : not b ≡ true → PieceAt K s at (entry_from K s at) (Unfit malformed)
-    entry_none q = record { within = tt; is = λ f. entry_judged f NoEntry (entered_not a (sym told ∙ not-true b q)) }
+    pub entry_none : b ≡ false → PieceAt K s at (entry_from K s at) (Unfit malformed)
+    entry_none q = record { within = tt; is = λ f. entry_judged f NoEntry (entered_not a (sym told ∙ q)) }
 
     -- it is one
-    module _ (q : not b ≡ false) {w : Walk} (held : HeldAt s at end next empty w) where
+    module _ (q : b ≡ true) {w : Walk} (held : HeldAt s at end next empty w) where
       entry_is : entry_in K s at ≡ of_entered s a
       entry_is = entry_told e entered
 
       is_entry_lem : is_entry (entry_in K s at) ≡ true
-      is_entry_lem = ap is_entry entry_is ∙ entered_is s a (sym told ∙ not-false b q)
+      is_entry_lem = ap is_entry entry_is ∙ entered_is s a (sym told ∙ q)
 
       some_judged : (f : List ℕ → Said) (x : Option Entry) → is_entry x ≡ true → enter x (where_on (of_walk s w) f) ≡ judging f x
       some_judged f none o = absurd (false≢true o)

@@ -172,13 +172,13 @@ module _ (s : List ℕ) (at end count : ℕ) where
 
   -- the root
   module _ (kind : Kind) (b : Bool) (f : b ≡ same (take (end - at) (drop at s)) (root_name kind)) where
-    pub root_unnamed : not b ≡ true → RootAt kind s at end count false
-    root_unnamed y = record { is = λ empty. sym (rw (named_is (root_name kind) b f, not-true b y)) }
+    pub root_unnamed : b ≡ false → RootAt kind s at end count false
+    root_unnamed y = record { is = λ empty. sym (rw (named_is (root_name kind) b f, y)) }
 
-    module _ (y : not b ≡ false) (n : ℕ) (counted : n ≡ length (own (attributes_at count (drop end s)))) where
+    module _ (y : b ≡ true) (n : ℕ) (counted : n ≡ length (own (attributes_at count (drop end s)))) where
       pub root_miscounted : (n ≡ 1 → ⊥) → RootAt kind s at end count false
-      root_miscounted z = record { is = λ empty. sym (rw (named_is (root_name kind) b f, not-false b y, ← counted, ne_eqb n 1 z)) }
+      root_miscounted z = record { is = λ empty. sym (rw (named_is (root_name kind) b f, y, ← counted, ne_eqb n 1 z)) }
 
       pub root_is : n ≡ 1 → (v : Value) → Valued s (value_among (ascii "xmlns") (attributes_at count (drop end s))) v →
           (r : Bool) → r ≡ is_namespace kind (of_value s v) → RootAt kind s at end count r
-      root_is z v p r g = record { is = λ empty. g ∙ ap (is_namespace kind) p.is ∙ sym (rw (named_is (root_name kind) b f, not-false b y, ← counted, z)) }
+      root_is z v p r g = record { is = λ empty. g ∙ ap (is_namespace kind) p.is ∙ sym (rw (named_is (root_name kind) b f, y, ← counted, z)) }

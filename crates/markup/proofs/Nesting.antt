@@ -98,22 +98,22 @@ module _ {s : List ℕ} {a left : ℕ} {text : Bool} {i : ℕ} (so : Coming s a 
 
   -- behind it at t: no start tag stands there
   module _ {t : ℕ} (e : w ≡ At t) {b : Bool} (o : b ≡ opens (drop t s)) where
-    pub came_ends : not b ≡ true → WalkedContent s a left text (At t)
+    pub came_ends : b ≡ false → WalkedContent s a left text (At t)
     came_ends q =
         let r = walked_at gap e in
         let f : a ≤ i = so.from in
-        let p : opens (drop t s) ≡ false = sym o ∙ not-true b q in
+        let p : opens (drop t s) ≡ false = sym o ∙ q in
         record { within = (omega arith, r.1); is = λ k h. sym (came_step k h (At t) e ∙ rw p) }
 
     -- one does, and its element is read from behind the `<` on
-    module _ (q : not b ≡ false) {n : ℕ} (st : n ≡ stops left text (drop (t + 1) s)) where
+    module _ (q : b ≡ true) {n : ℕ} (st : n ≡ stops left text (drop (t + 1) s)) where
       abbrev inner : (k : ℕ) → length s ≤ a + k → List ℕ → Outcome
       inner k h u = element (fewer k h) (left - 1) u
 
       came_nested : (k : ℕ) (h : length s ≤ a + k)
           → content k left text (drop a s) ≡ and_then (either (eqb n 0) (inner k h (drop (t + 1) s)) (Not n)) (behind k h)
       came_nested k h =
-          let p : opens (drop t s) ≡ true = sym o ∙ not-false b q in
+          let p : opens (drop t s) ≡ true = sym o ∙ q in
           came_step k h (At t) e ∙ rw (p, nested_stops (inner k h) left text (drop 1 (drop t s)), drop-drop 1 t s, ← st)
 
       -- it is refused

@@ -90,9 +90,9 @@ pub tag_reach : {s : List ℕ} {at end count next : ℕ} {empty : Bool} {r : Tag
 tag_reach {s} {at} p e = subst (λ (x : Tagged). TagWithin s at x) e p.within
 
 -- a start tag stands before the end
-pub opens_within : (s : List ℕ) (t : ℕ) {b : Bool} → b ≡ opens (drop t s) → not b ≡ false → t + 1 ≤ length s
+pub opens_within : (s : List ℕ) (t : ℕ) {b : Bool} → b ≡ opens (drop t s) → b ≡ true → t + 1 ≤ length s
 opens_within s t {b} e q =
-    let o : opens (drop t s) ≡ true = sym e ∙ not-false b q in
+    let o : opens (drop t s) ≡ true = sym e ∙ q in
     let x = get_or (drop t s) 0 0 in
     let a : x ≡ 60 = eqb-true x 60 (and_left (eqb x less) (name_first (get_or (drop t s) 1 0)) o) in
     let f : x ≡ get_or s t 0 = get_or_rest t s in

@@ -66,17 +66,17 @@ module _ {s : List ℕ} {at : ℕ} {w : Walk} (gap : Walked s at (between false 
     next_behind : (f g : List ℕ → Said) (c : Bool) → b ≡ c → behind f g c (drop t s) ≡ next_step (drop at s) f g
     next_behind f g c q = ap (λ (x : Bool). behind f g x (drop t s)) (sym q ∙ o) ∙ next_gap f g (At t) e
 
-    pub next_over : not b ≡ true → StepAt s at (Over t)
-    next_over q = record { within = walked_at gap e; is = λ f g. next_behind f g false (not-true b q) }
+    pub next_over : b ≡ false → StepAt s at (Over t)
+    next_over q = record { within = walked_at gap e; is = λ f g. next_behind f g false q }
 
     -- a start tag stands there: its element is passed over, or it has no prefix
-    module _ (q : not b ≡ false) {end : ℕ} (ended : end ≡ t + 1 + length (name_at (drop (t + 1) s))) {p : Bool}
+    module _ (q : b ≡ true) {end : ℕ} (ended : end ≡ t + 1 + length (name_at (drop (t + 1) s))) {p : Bool}
         (is : p ≡ prefixed (part (t + 1) (end - (t + 1)) s)) where
       next_named : (f g : List ℕ → Said) (c : Bool) → p ≡ c → named f g c (drop (t + 1) s) ≡ next_step (drop at s) f g
       next_named f g c z =
           let d : drop 1 (drop t s) ≡ drop (t + 1) s = drop-drop 1 t s in
           let y : c ≡ prefixed (name_at (drop (t + 1) s)) = sym z ∙ is ∙ ap prefixed (sym (name_part s (t + 1) end ended)) in
-          rw (y, ← d) (next_behind f g true (not-false b q))
+          rw (y, ← d) (next_behind f g true q)
 
       pub next_passed : p ≡ true → {r : Step} → PassedAt s (t + 1) r → StepAt s at r
       next_passed z {r} a =

@@ -43,12 +43,12 @@ module _ (K : Kind) {s : List ℕ} {at : ℕ} {r : Tagged} (tag : TagAt s at r) 
     root_named c q =
         ap (λ (x : Bool). choose x (holding empty) (Unread malformed)) (sym q ∙ is.is empty) ∙ root_read (Opened end count next empty) e
 
-    pub root_other : not b ≡ true → Rooted K s (root_of K (start_tag (drop at s))) (NoRoot malformed)
-    root_other q = record { within = tt; is = root_named false (not-true b q) }
+    pub root_other : b ≡ false → Rooted K s (root_of K (start_tag (drop at s))) (NoRoot malformed)
+    root_other q = record { within = tt; is = root_named false q }
 
-    module _ (q : not b ≡ false) where
+    module _ (q : b ≡ true) where
       root_held_lem : (x : Bool) → empty ≡ x → holding x ≡ root_of K (start_tag (drop at s))
-      root_held_lem x z = sym (ap holding z) ∙ root_named true (not-false b q)
+      root_held_lem x z = sym (ap holding z) ∙ root_named true q
 
       pub root_empty : empty ≡ true → Rooted K s (root_of K (start_tag (drop at s))) (Empty next)
       root_empty z = record { within = (tag_reach tag e).2; is = root_held_lem true z }
@@ -76,11 +76,11 @@ module _ (K : Kind) {s : List ℕ} {d : ℕ} (declared : (d ≤ length s) × (dr
         ∙ ap (λ (x : List ℕ). choose (opens (drop t s)) (root_of K (start_tag x)) (Unread malformed)) (sym (drop-drop 1 t s))
         ∙ stream_gap (At t) e
 
-    pub stream_none : not b ≡ true → Rooted K s (said K s) (NoRoot malformed)
-    stream_none q = record { within = tt; is = stream_root false (not-true b q) }
+    pub stream_none : b ≡ false → Rooted K s (said K s) (NoRoot malformed)
+    stream_none q = record { within = tt; is = stream_root false q }
 
-    pub stream_rooted : not b ≡ false → {r : Root} → Rooted K s (root_of K (start_tag (drop (t + 1) s))) r → Rooted K s (said K s) r
-    stream_rooted q p = record { within = p.within; is = p.is ∙ stream_root true (not-false b q) }
+    pub stream_rooted : b ≡ true → {r : Root} → Rooted K s (root_of K (start_tag (drop (t + 1) s))) r → Rooted K s (said K s) r
+    stream_rooted q p = record { within = p.within; is = p.is ∙ stream_root true q }
 
 -- the declaration
 module _ (s : List ℕ) (b : Bool) (e : b ≡ begins xml_declaration (drop 0 s)) where

@@ -10,11 +10,7 @@ use Rattle.markup.proofs.Gaps.{Came, came_none, came_end, came_off, came_on}
 use Rattle.markup.proofs.comments.between.Given as goal
 
 abbrev pub invariant-loop-at : goal.invariant-loop-at
-invariant-loop-at l =
-    -- PARAMS ['s', 'at', 'text', 'i₀', 'mark', 'i'] vs ['l.s', 'l.at', 'l.text', 'l.initial.i', 'l.i']
-Reached l.s l.at i × Came l.s i l.text (between l.text (drop l.at l.s))
+invariant-loop-at l = Reached l.s l.at l.i × Came l.s l.i l.text (between l.text (drop l.at l.s))
 
 abbrev pub decreases-loop-at : goal.decreases-loop-at
-decreases-loop-at l =
-    -- PARAMS ['s', 'at', 'text', 'i₀', 'mark', 'i'] vs ['l.s', 'l.at', 'l.text', 'l.initial.i', 'l.i']
-length l.s - i
+decreases-loop-at l = length l.s - l.i

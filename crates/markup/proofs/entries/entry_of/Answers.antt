@@ -3,7 +3,7 @@ use Rattle.markup.proofs.EntryTags.{entry_default, entry_override, entry_untyped
 use Rattle.markup.proofs.entries.entry_of.Goals as goal
 
 pub returns-then-is_same : goal.returns-then-is_same
-returns-then-is_same c = entry_default _ _ _ _ _ c.in-Types.is _ c.is_same.ensures c.if-is_same.true _ c.type-inv.ensures
+returns-then-is_same c = entry_default _ _ _ _ _ c.in-Types.is _ c.is_same.ensures c.if-is_same.true _ c.typed.ensures
 
 pub returns-then-is_same-2 : goal.returns-then-is_same-2
 returns-then-is_same-2 c =

@@ -3,14 +3,6 @@ use Rattle.markup.specs.declared.entries.Kind.TheVariants.{Types, Relationships}
 use Rattle.markup.proofs.EntryValues.{value_within, namespace_is}
 use Rattle.markup.proofs.entries.is_namespace.Goals as goal
 
--- UNMATCHED
-part_means_start_2 : tie.Need-slice-bounds-means-start-2
-part_means_start_2 c = let at_v = c.before.before.before in (value_within _ _ _ _ at_v.v.given.1 at_v.before.before.before.requires).0
-
--- UNMATCHED
-part_means_end_2 : tie.Need-slice-bounds-means-end-2
-part_means_end_2 c = let at_v = c.before.before.before in (value_within _ _ _ _ at_v.v.given.1 at_v.before.before.before.requires).1
-
 pub slice_bounds-means-count : goal.slice_bounds-means-count
 slice_bounds-means-count c = (value_within _ _ _ _ c.in-Is.is c.requires).0
 
@@ -22,6 +14,12 @@ slice_bounds-means-end c = (value_within _ _ _ _ c.in-Is.is c.requires).1
 
 pub slice_bounds-means-count-in-Relationships : goal.slice_bounds-means-count-in-Relationships
 slice_bounds-means-count-in-Relationships c = (value_within _ _ _ _ c.in-Is.is c.requires).0
+
+pub slice_bounds-means-start-in-Relationships : goal.slice_bounds-means-start-in-Relationships
+slice_bounds-means-start-in-Relationships c = (value_within _ _ _ _ c.in-Is.is c.requires).0
+
+pub slice_bounds-means-end-in-Relationships : goal.slice_bounds-means-end-in-Relationships
+slice_bounds-means-end-in-Relationships c = (value_within _ _ _ _ c.in-Is.is c.requires).1
 
 pub returns-in-Types : goal.returns-in-Types
 returns-in-Types c = namespace_is _ _ _ _ c.in-Is.is _ Types c.in-Types.is _ c.means.ensures

@@ -2,12 +2,6 @@ use borrow.Author.Rules.{rules}
 use Rattle.markup.proofs.EntryValues.{value_within, mode_internal, mode_external, mode_neither}
 use Rattle.markup.proofs.entries.mode_of.Goals as goal
 
--- UNMATCHED
-part_means_end_2 : tie.Need-slice-bounds-means-end-2
-part_means_end_2 c =
-    let at_v = c.before.before.before.before.before in
-    (value_within _ _ _ _ at_v.v.given.1 at_v.before.before.before.requires).1
-
 pub slice_bounds-means-count : goal.slice_bounds-means-count
 slice_bounds-means-count c = (value_within _ _ _ _ c.in-Is.is c.requires).0
 

@@ -17,7 +17,7 @@ entry_of-requires c =
 pub returns-then-not-is_entry : goal.returns-then-not-is_entry
 returns-then-not-is_entry c =
     entry_none _ c.start_tag.ensures c.in-Opened.is c.entry_of.ensures
-    c.is_entry_lem.ensures (ap not c.if-not-is_entry.true)
+    c.is_entry.ensures c.if-not-is_entry.true
 
 pub entry_held-requires : goal.entry_held-requires
 entry_held-requires c =
@@ -27,9 +27,9 @@ entry_held-requires c =
 pub returns-in-At : goal.returns-in-At
 returns-in-At c =
     entry_on _ c.start_tag.ensures c.in-Opened.is c.entry_of.ensures
-    c.is_entry_lem.ensures (ap not c.if-not-is_entry.false) c.entry_held.ensures c.in-At.is
+    c.is_entry.ensures c.if-not-is_entry.false c.entry_held.ensures c.in-At.is
 
 pub returns-in-Off : goal.returns-in-Off
 returns-in-Off c =
     entry_off _ c.start_tag.ensures c.in-Opened.is c.entry_of.ensures
-    c.is_entry_lem.ensures (ap not c.if-not-is_entry.false) c.entry_held.ensures c.in-Off.is
+    c.is_entry.ensures c.if-not-is_entry.false c.entry_held.ensures c.in-Off.is

@@ -8,11 +8,6 @@ use mathlib.Core.Bool.{not}
 use mathlib.Core.Path.{ap}
 use Rattle.markup.proofs.streams.find_root.Goals as goal
 
--- the start tag stands before the end
-before_end : (c : tie.Else1)
-    → c.before.before.before.t.given.0.0 + 1 ≤ length c.before.before.before.before.before.before.before.before.args.s.now
-before_end c = opens_within _ _ c.before.opens.ensures c.if1.false
-
 pub returns-in-Off : goal.returns-in-Off
 returns-in-Off c = stream_bad _ c.declaration_end.ensures c.between.ensures c.in-Off.is
 
@@ -20,15 +15,17 @@ pub opens-requires : goal.opens-requires
 opens-requires c = (walked_at c.between.ensures c.in-At.is).1
 
 pub returns-then-not-opens : goal.returns-then-not-opens
-returns-then-not-opens c = stream_none _ c.declaration_end.ensures c.between.ensures c.in-At.is c.opens.ensures (ap not c.if-not-opens.true)
+returns-then-not-opens c = stream_none _ c.declaration_end.ensures c.between.ensures c.in-At.is c.opens.ensures c.if-not-opens.true
 
 pub overflow_add-t : goal.overflow_add-t
-overflow_add-t c = record { fits = omega (arith, before_end c) }
+overflow_add-t c =
+    let h : c.in-At.t + 1 ≤ length c.args.s.now = opens_within _ _ c.opens.ensures c.if-not-opens.false in
+    record { fits = omega arith }
 
 pub root_tag-requires : goal.root_tag-requires
-root_tag-requires c = before_end c
+root_tag-requires c = opens_within _ _ c.opens.ensures c.if-not-opens.false
 
 pub returns : goal.returns
 returns c =
     stream_rooted _ c.declaration_end.ensures c.between.ensures c.in-At.is c.opens.ensures
-    (ap not c.if-not-opens.false) c.root_tag_lem.ensures
+    c.if-not-opens.false c.root_tag.ensures

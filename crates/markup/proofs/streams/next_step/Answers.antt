@@ -8,11 +8,6 @@ use mathlib.Core.Bool.{not}
 use mathlib.Core.Path.{ap}
 use Rattle.markup.proofs.streams.next_step.Goals as goal
 
--- the start tag stands before the end
-before_end : (c : tie.Else1)
-    → c.before.before.before.t.given.0.0 + 1 ≤ length c.before.before.before.before.before.before.before.args.s.now
-before_end c = opens_within _ _ c.before.opens.ensures c.if1.false
-
 pub returns-in-Off : goal.returns-in-Off
 returns-in-Off c = next_bad c.between.ensures c.in-Off.is
 
@@ -20,23 +15,27 @@ pub opens-requires : goal.opens-requires
 opens-requires c = (walked_at c.between.ensures c.in-At.is).1
 
 pub returns-then-not-opens : goal.returns-then-not-opens
-returns-then-not-opens c = next_over c.between.ensures c.in-At.is c.opens.ensures (ap not c.if-not-opens.true)
+returns-then-not-opens c = next_over c.between.ensures c.in-At.is c.opens.ensures c.if-not-opens.true
 
 pub overflow_add-t : goal.overflow_add-t
-overflow_add-t c = record { fits = omega (arith, before_end c) }
+overflow_add-t c =
+    let h : c.in-At.t + 1 ≤ length c.args.s.now = opens_within _ _ c.opens.ensures c.if-not-opens.false in
+    record { fits = omega arith }
 
 pub overflow_add-t-2 : goal.overflow_add-t-2
-overflow_add-t-2 c = record { fits = omega (arith, before_end c) }
+overflow_add-t-2 c =
+    let h : c.in-At.t + 1 ≤ length c.args.s.now = opens_within _ _ c.opens.ensures c.if-not-opens.false in
+    record { fits = omega arith }
 
 pub name_end-requires : goal.name_end-requires
-name_end-requires c = before_end c
+name_end-requires c = opens_within _ _ c.opens.ensures c.if-not-opens.false
 
 pub returns-then-is_prefixed : goal.returns-then-is_prefixed
 returns-then-is_prefixed c =
-    next_passed c.between.ensures c.in-At.is c.opens.ensures (ap not c.if-not-opens.false)
+    next_passed c.between.ensures c.in-At.is c.opens.ensures c.if-not-opens.false
     c.name_end.ensures.1 c.is_prefixed.ensures c.if-is_prefixed.true c.passed_over.ensures
 
 pub returns : goal.returns
 returns c =
-    next_plain c.between.ensures c.in-At.is c.opens.ensures (ap not c.if-not-opens.false)
+    next_plain c.between.ensures c.in-At.is c.opens.ensures c.if-not-opens.false
     c.name_end.ensures.1 c.is_prefixed.ensures c.if-is_prefixed.false

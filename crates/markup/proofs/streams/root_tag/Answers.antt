@@ -15,14 +15,14 @@ is_root-requires c =
     (omega arith, omega arith)
 
 pub returns-then-not-is_root : goal.returns-then-not-is_root
-returns-then-not-is_root c = root_other _ c.start_tag.ensures c.in-Opened.is c.is_root_lem.ensures (ap not c.if-not-is_root.true)
+returns-then-not-is_root c = root_other _ c.start_tag.ensures c.in-Opened.is c.is_root.ensures c.if-not-is_root.true
 
 pub returns-then-empty : goal.returns-then-empty
 returns-then-empty c =
-    root_empty _ c.start_tag.ensures c.in-Opened.is c.is_root_lem.ensures
-    (ap not c.if-not-is_root.false) c.if-empty.true
+    root_empty _ c.start_tag.ensures c.in-Opened.is c.is_root.ensures
+    c.if-not-is_root.false c.if-empty.true
 
 pub returns : goal.returns
 returns c =
-    root_holds _ c.start_tag.ensures c.in-Opened.is c.is_root_lem.ensures
-    (ap not c.if-not-is_root.false) c.if-empty.false
+    root_holds _ c.start_tag.ensures c.in-Opened.is c.is_root.ensures
+    c.if-not-is_root.false c.if-empty.false

@@ -6,7 +6,7 @@ use mathlib.Core.Bool.{not}
 use Rattle.markup.proofs.tags.is_repeated.Goals as goal
 
 pub returns-then-not-marked : goal.returns-then-not-marked
-returns-then-not-marked c = sym (c.requires.2 (not-true _ (ap not c.if-not-marked.true)))
+returns-then-not-marked c = sym (c.requires.2 c.if-not-marked.true)
 
 pub returns-in-Given : goal.returns-in-Given
 returns-in-Given c = named_given _ _ _ _ _ _ c.find_attribute.ensures _ _ _ _ _ c.in-Given.is

@@ -17,7 +17,7 @@ pub returns-then-not-are_plain : goal.returns-then-not-are_plain
 returns-then-not-are_plain c = c.loop-i.invariant
 
 pub loop-i-preserved : goal.loop-i-preserved
-loop-i-preserved c = (omega arith, c.loop-i.invariant.1 ∙ c.are_plain.ensures (not-false _ (ap not c.if-not-are_plain.false)))
+loop-i-preserved c = (omega arith, c.loop-i.invariant.1 ∙ c.are_plain.ensures c.if-not-are_plain.false)
 
 pub returns : goal.returns
 returns c = c.loop-i.invariant
