@@ -8,7 +8,7 @@ use mathlib.Core.List.{List, []}
 use lib.Dec.{eqb}
 use lib.ListN.{length, drop, drop_of_length-le}
 use lib.Seq.{drop-drop}
-use borrow.Author.Tests.{eq-eqb, ne_eqb, not-true, not-false}
+use borrow.Author.Tests.{eq-eqb, ne_eqb}
 use Rattle.base.specs.Buffer.{part}
 use Rattle.chars.specs.Bytes.{letter}
 use Rattle.markup.specs.Marks.{Outcome, On, Not, malformed, too_deep, either, and_then, name_at, prefixed}

@@ -14,7 +14,7 @@ use Rattle.chars.specs.declared.search.Alphabet.TheVariants.{Id}
 use Rattle.chars.proofs.FirstBytes.{index_none}
 use Rattle.chars.proofs.Searches.{every_imp}
 use Rattle.chars.proofs.UnitBytes.{but, class_but}
-use Rattle.markup.specs.Marks.{On, name_first, prefixed, quotable, value_unit, value_byte, unquoted}
+use Rattle.markup.specs.Marks.{On, name_first, prefixed, value_unit, value_byte, unquoted}
 use Rattle.markup.specs.Tags.{attribute_named, own, distinct, Tag, Begun, start_tag, end_tag}
 use Rattle.markup.specs.Elements.{gaps, between}
 use Rattle.markup.specs.Entries.{Entry, entry_of, root_name, namespace}

@@ -1,4 +1,3 @@
-use borrow.Author.Rules.{rules}
 use Rattle.markup.proofs.AttributePlaces.{attribute_nameless, attribute_unequated, equals_within, attribute_valueless, attribute_given}
 use Rattle.markup.proofs.attributes.attribute.Goals as goal
 

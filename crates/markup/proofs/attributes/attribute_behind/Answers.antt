@@ -1,4 +1,3 @@
-use borrow.Author.Rules.{rules}
 use Rattle.markup.proofs.AttributePlaces.{next_parted, next_unparted}
 use Rattle.markup.proofs.attributes.attribute_behind.Goals as goal
 

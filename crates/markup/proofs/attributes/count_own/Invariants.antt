@@ -1,10 +1,7 @@
 use Prim.Native.Nat.{◌+◌, ◌-◌, ◌≤◌}
 use mathlib.Core.Path.{◌≡◌}
-use native.Mathlib.Omega.{arith}
 use lib.ListN.{length, drop}
-use borrow.Author.Rules.{rules}
 use Rattle.markup.specs.Tags.{attributes_at, own}
-use Rattle.markup.proofs.AttributeWalks.{given_within, one_at_most, own_begin, own_end, own_none, own_on}
 use Rattle.markup.proofs.attributes.count_own.Given as goal
 
 abbrev pub invariant-loop-k : goal.invariant-loop-k

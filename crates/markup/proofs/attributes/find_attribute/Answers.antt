@@ -1,9 +1,5 @@
-use Prim.Native.Nat.{◌-◌, ◌≤◌}
-use mathlib.Core.Path.{◌≡◌}
 use native.Mathlib.Omega.{arith}
-use lib.ListN.{length, drop}
-use borrow.Author.Rules.{rules}
-use Rattle.markup.specs.Tags.{attributes_at, attribute_named}
+use lib.ListN.{drop}
 use Rattle.markup.proofs.AttributeWalks.{given_within, sought_begin, sought_end, sought_none, sought_here, sought_on}
 use Rattle.markup.proofs.attributes.find_attribute.Goals as goal
 

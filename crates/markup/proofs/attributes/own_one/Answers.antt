@@ -1,4 +1,3 @@
-use borrow.Author.Rules.{rules}
 use Rattle.markup.proofs.attributes.own_one.Goals as goal
 
 pub returns-then-is_prefixed : goal.returns-then-is_prefixed

@@ -1,9 +1,5 @@
 use native.Mathlib.Omega.{arith}
-use borrow.Author.Rules.{rules}
-use borrow.Author.Tests.{not-true, not-false}
 use Rattle.markup.proofs.ValueEnds.{value_unmarked, to_within, value_some, value_unquotable}
-use mathlib.Core.Bool.{not}
-use mathlib.Core.Path.{ap}
 use Rattle.markup.proofs.attributes.value_end.Goals as goal
 
 pub returns-then-not-is_quote_mark : goal.returns-then-not-is_quote_mark

@@ -1,13 +1,6 @@
-use mathlib.Core.Path.{sym, ◌∙◌, ap}
-use Prim.Native.Nat.{◌-◌}
+use mathlib.Core.Path.{sym, ◌∙◌}
 use native.Mathlib.Omega.{arith}
-use lib.ListN.{length, drop}
-use borrow.Author.Rules.{rules}
-use borrow.Author.Tests.{not-true, not-false}
-use Rattle.markup.specs.Elements.{between}
-use Rattle.markup.specs.Walks.{Reached}
-use Rattle.markup.proofs.Gaps.{Came, came_none, came_end, came_off, came_on}
-use mathlib.Core.Bool.{not}
+use Rattle.markup.proofs.Gaps.{came_none, came_end, came_off, came_on}
 use Rattle.markup.proofs.comments.between.Goals as goal
 
 pub loop-at-init : goal.loop-at-init

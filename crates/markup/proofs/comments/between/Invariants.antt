@@ -1,12 +1,8 @@
-use mathlib.Core.Path.{sym, ◌∙◌}
 use Prim.Native.Nat.{◌-◌}
-use native.Mathlib.Omega.{arith}
 use lib.ListN.{length, drop}
-use borrow.Author.Rules.{rules}
-use borrow.Author.Tests.{not-true, not-false}
 use Rattle.markup.specs.Elements.{between}
 use Rattle.markup.specs.Walks.{Reached}
-use Rattle.markup.proofs.Gaps.{Came, came_none, came_end, came_off, came_on}
+use Rattle.markup.proofs.Gaps.{Came}
 use Rattle.markup.proofs.comments.between.Given as goal
 
 abbrev pub invariant-loop-at : goal.invariant-loop-at

@@ -1,4 +1,3 @@
-use borrow.Author.Rules.{rules}
 use Rattle.markup.specs.Marks.{comment_mark}
 use Rattle.markup.proofs.Rests.{stands_within}
 use Rattle.markup.proofs.Dashes.{comment_read}

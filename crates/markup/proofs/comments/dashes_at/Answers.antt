@@ -1,10 +1,5 @@
-use mathlib.Core.Path.{◌≡◌, refl, sym, ◌∙◌}
-use Prim.Native.Nat.{◌+◌, ◌-◌}
+use mathlib.Core.Path.{refl, sym, ◌∙◌}
 use native.Mathlib.Omega.{arith}
-use lib.ListN.{length, drop}
-use borrow.Author.Rules.{rules}
-use Rattle.markup.specs.Marks.{dashes}
-use Rattle.markup.specs.Walks.{Reached}
 use Rattle.markup.proofs.Rests.{index_within}
 use Rattle.markup.proofs.Dashes.{dashes_none, dashes_here, dashes_past}
 use Rattle.markup.proofs.comments.dashes_at.Goals as goal

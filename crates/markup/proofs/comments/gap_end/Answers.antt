@@ -1,4 +1,3 @@
-use borrow.Author.Rules.{rules}
 use Rattle.markup.proofs.Gaps.{text_end, blank_end}
 use Rattle.markup.proofs.comments.gap_end.Goals as goal
 

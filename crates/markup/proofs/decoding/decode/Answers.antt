@@ -1,9 +1,6 @@
-use Prim.Native.Nat.{◌-◌, ◌≤◌}
-use mathlib.Core.Path.{◌≡◌, refl, ◌∙◌}
-use mathlib.Core.List.{◌++◌}
+use mathlib.Core.Path.{refl, ◌∙◌}
 use native.Mathlib.Omega.{arith}
-use lib.ListN.{length, take, drop, length-set}
-use Rattle.markup.specs.Marks.{unquoted}
+use lib.ListN.{length-set}
 use Rattle.markup.proofs.Decodings.{decode_next, decoded_full, decoded_all}
 use Rattle.markup.proofs.decoding.decode.Goals as goal
 

@@ -1,10 +1,8 @@
 use Prim.Native.Nat.{◌-◌, ◌≤◌}
-use mathlib.Core.Path.{◌≡◌, refl, ◌∙◌}
+use mathlib.Core.Path.{◌≡◌}
 use mathlib.Core.List.{◌++◌}
-use native.Mathlib.Omega.{arith}
-use lib.ListN.{length, take, drop, length-set}
+use lib.ListN.{length, take, drop}
 use Rattle.markup.specs.Marks.{unquoted}
-use Rattle.markup.proofs.Decodings.{decode_next, decoded_full, decoded_all}
 use Rattle.markup.proofs.decoding.decode.Given as goal
 
 abbrev pub invariant-loop-i : goal.invariant-loop-i

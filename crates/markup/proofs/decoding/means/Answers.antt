@@ -1,6 +1,5 @@
 use mathlib.Core.Path.{sym, ◌∙◌}
 use lib.Seq.{length-take-le}
-use borrow.Author.Rules.{rules}
 use Rattle.markup.proofs.Decodings.{decoded_within, decoded_same}
 use Rattle.markup.proofs.decoding.means.Goals as goal
 

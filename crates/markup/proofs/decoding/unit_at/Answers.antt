@@ -1,4 +1,3 @@
-use borrow.Author.Rules.{rules}
 use Rattle.markup.proofs.Decodings.{byte_entity, byte_none, byte_plain}
 use Rattle.markup.proofs.decoding.unit_at.Goals as goal
 

@@ -1,4 +1,3 @@
-use borrow.Author.Rules.{rules}
 use Rattle.markup.proofs.TagEnds.{deep_stops, text_passes, prefix_passes, bare_stops}
 use Rattle.markup.proofs.elements.refusal.Goals as goal
 

@@ -1,4 +1,3 @@
-use borrow.Author.Rules.{rules}
 use Rattle.markup.proofs.EntryTags.{entry_default, entry_override, entry_untyped, entry_related, entry_unrelated}
 use Rattle.markup.proofs.entries.entry_of.Goals as goal
 

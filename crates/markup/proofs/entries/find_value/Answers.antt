@@ -1,4 +1,3 @@
-use borrow.Author.Rules.{rules}
 use Rattle.markup.proofs.EntryValues.{value_given, value_missing}
 use Rattle.markup.proofs.entries.find_value.Goals as goal
 

@@ -1,4 +1,3 @@
-use borrow.Author.Rules.{rules}
 use Rattle.markup.specs.declared.entries.Kind.TheVariants.{Types, Relationships}
 use Rattle.markup.proofs.EntryValues.{value_within, namespace_is}
 use Rattle.markup.proofs.entries.is_namespace.Goals as goal

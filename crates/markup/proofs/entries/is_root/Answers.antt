@@ -1,7 +1,4 @@
-use borrow.Author.Rules.{rules}
 use Rattle.markup.proofs.EntryTags.{root_unnamed, root_miscounted, root_is}
-use mathlib.Core.Bool.{not}
-use mathlib.Core.Path.{ap}
 use Rattle.markup.proofs.entries.is_root.Goals as goal
 
 pub returns-then-not-is_root_name : goal.returns-then-not-is_root_name

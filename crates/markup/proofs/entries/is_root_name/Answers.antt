@@ -1,5 +1,4 @@
 use mathlib.Core.Path.{sym, ap, ◌∙◌}
-use borrow.Author.Rules.{rules}
 use Rattle.chars.specs.Lists.{same}
 use Rattle.markup.specs.Entries.{root_name}
 use Rattle.markup.specs.declared.entries.Kind.{Kind}

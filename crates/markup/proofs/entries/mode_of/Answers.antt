@@ -1,4 +1,3 @@
-use borrow.Author.Rules.{rules}
 use Rattle.markup.proofs.EntryValues.{value_within, mode_internal, mode_external, mode_neither}
 use Rattle.markup.proofs.entries.mode_of.Goals as goal
 

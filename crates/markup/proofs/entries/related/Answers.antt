@@ -1,4 +1,3 @@
-use borrow.Author.Rules.{rules}
 use Rattle.markup.proofs.EntryTags.{related_miscounted, related_idless, related_typeless, related_targetless, related_is}
 use Rattle.markup.proofs.entries.related.Goals as goal
 

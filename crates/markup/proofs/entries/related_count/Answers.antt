@@ -1,6 +1,5 @@
 use Prim.Native.Nat.{◌+◌}
 use mathlib.Core.Path.{sym, ap}
-use borrow.Author.Rules.{rules}
 use Rattle.markup.specs.EntryPlaces.{given_at}
 use Rattle.markup.specs.declared.entries.Value.{Value}
 use Rattle.markup.proofs.entries.related_count.Goals as goal

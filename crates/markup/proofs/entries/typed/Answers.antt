@@ -1,4 +1,3 @@
-use borrow.Author.Rules.{rules}
 use Rattle.markup.proofs.EntryTags.{typed_miscounted, typed_keyless, typed_typeless, typed_is}
 use Rattle.markup.proofs.entries.typed.Goals as goal
 

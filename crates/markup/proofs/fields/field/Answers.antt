@@ -1,4 +1,3 @@
-use borrow.Author.Rules.{rules}
 use Rattle.base.specs.Buffer.{part}
 use Rattle.markup.proofs.fields.field.Goals as goal
 

@@ -1,4 +1,3 @@
-use borrow.Author.Rules.{rules}
 use Rattle.markup.proofs.FieldTexts.{entry_within, related_is, related_none, related_other}
 use Rattle.markup.proofs.fields.related_fields.Goals as goal
 

@@ -1,4 +1,3 @@
-use borrow.Author.Rules.{rules}
 use Rattle.markup.proofs.FieldTexts.{entry_within, typed_is, typed_none, typed_other}
 use Rattle.markup.proofs.fields.typed_fields.Goals as goal
 

@@ -1,4 +1,3 @@
-use borrow.Author.Rules.{rules}
 use Rattle.markup.proofs.StreamForms.{form_rootless, empty_within, form_empty, holds_within, form_stops}
 use Rattle.markup.proofs.StreamForms.{run_within, form_open, tag_within, form_closed}
 use Rattle.markup.proofs.forms.check_form.Goals as goal

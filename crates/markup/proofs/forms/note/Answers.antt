@@ -1,5 +1,4 @@
 use borrow.Author.Tests.{lt-ltb, le-ltb}
-use borrow.Author.Rules.{rules}
 use Rattle.markup.proofs.forms.note.Goals as goal
 
 pub returns-then-n-lt-PLACES : goal.returns-then-n-lt-PLACES

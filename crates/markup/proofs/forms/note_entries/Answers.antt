@@ -1,8 +1,5 @@
-use Prim.Native.Nat.{◌-◌}
 use native.Mathlib.Omega.{arith}
-use lib.ListN.{length}
-use borrow.Author.Rules.{rules}
-use Rattle.markup.proofs.Notings.{Going, gone_none, next_reach, gone_entered, gone_done, gone_unfit}
+use Rattle.markup.proofs.Notings.{gone_none, next_reach, gone_entered, gone_done, gone_unfit}
 use Rattle.markup.proofs.forms.note_entries.Goals as goal
 
 pub loop-at-init : goal.loop-at-init

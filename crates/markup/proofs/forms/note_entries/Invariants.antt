@@ -1,8 +1,6 @@
 use Prim.Native.Nat.{◌-◌}
-use native.Mathlib.Omega.{arith}
 use lib.ListN.{length}
-use borrow.Author.Rules.{rules}
-use Rattle.markup.proofs.Notings.{Going, gone_none, next_reach, gone_entered, gone_done, gone_unfit}
+use Rattle.markup.proofs.Notings.{Going}
 use Rattle.markup.proofs.forms.note_entries.Given as goal
 
 abbrev pub invariant-loop-at : goal.invariant-loop-at

@@ -1,13 +1,9 @@
-use mathlib.Core.Path.{◌≡◌, refl, sym, ap, ◌∙◌}
+use mathlib.Core.Path.{refl, sym, ap, ◌∙◌}
 use mathlib.Core.Bool.{not}
-use Prim.Native.Nat.{ℕ, ◌+◌, ◌-◌}
+use Prim.Native.Nat.{ℕ}
 use native.Mathlib.Omega.{arith}
-use lib.ListN.{length, drop}
-use borrow.Author.Rules.{rules}
-use Rattle.chars.specs.Lists.{first_not}
 use Rattle.chars.proofs.Searches.{first_hit, first_miss, first_end_lem}
 use Rattle.markup.specs.Marks.{blank}
-use Rattle.markup.specs.Walks.{Reached}
 use Rattle.markup.proofs.Rests.{drop_past}
 use Rattle.markup.proofs.marks.blanks_end.Goals as goal
 

@@ -1,4 +1,3 @@
-use borrow.Author.Rules.{rules}
 use Rattle.markup.proofs.Rests.{expected_on, expected_off}
 use Rattle.markup.proofs.marks.expected.Goals as goal
 

@@ -1,5 +1,4 @@
 use mathlib.Core.Path.{ap, ◌∙◌}
-use borrow.Author.Rules.{rules}
 use Rattle.base.proofs.Lists.{take_rest}
 use Rattle.chars.specs.Lists.{begins}
 use Rattle.markup.proofs.marks.stands.Goals as goal

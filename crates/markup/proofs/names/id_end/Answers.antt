@@ -1,5 +1,4 @@
 use native.Mathlib.Omega.{arith}
-use borrow.Author.Rules.{rules}
 use Rattle.markup.proofs.NameEnds.{id_on, id_off}
 use Rattle.markup.proofs.names.id_end.Goals as goal
 

@@ -1,4 +1,3 @@
-use borrow.Author.Rules.{rules}
 use Rattle.markup.proofs.Sets.{name_byte_is}
 use Rattle.markup.proofs.names.is_name_byte.Goals as goal
 

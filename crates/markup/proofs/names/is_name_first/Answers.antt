@@ -1,4 +1,3 @@
-use borrow.Author.Rules.{rules}
 use Rattle.markup.proofs.Sets.{name_first_is}
 use Rattle.markup.proofs.names.is_name_first.Goals as goal
 

@@ -1,6 +1,5 @@
 use mathlib.Core.Path.{ap}
 use mathlib.Core.Bool.{not}
-use borrow.Author.Rules.{rules}
 use Rattle.base.specs.Buffer.{part}
 use Rattle.markup.proofs.names.is_prefixed.Goals as goal
 

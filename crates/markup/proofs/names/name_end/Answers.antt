@@ -1,5 +1,4 @@
 use native.Mathlib.Omega.{arith}
-use borrow.Author.Rules.{rules}
 use Rattle.markup.proofs.NameEnds.{name_alone, colon_within, name_first_lem, name_both}
 use Rattle.markup.proofs.names.name_end.Goals as goal
 

@@ -1,5 +1,4 @@
 use native.Mathlib.Omega.{arith}
-use borrow.Author.Rules.{rules}
 use Rattle.markup.proofs.Rests.{tag_reach}
 use Rattle.markup.proofs.EntryPieces.{no_entry, entering}
 use Rattle.markup.proofs.pieces.entry_at.Goals as goal

@@ -1,4 +1,3 @@
-use borrow.Author.Rules.{rules}
 use Rattle.markup.proofs.Rests.{content_at}
 use Rattle.markup.proofs.EntryPieces.{holds_nothing, holds_off, holds_on}
 use Rattle.markup.proofs.pieces.entry_held.Goals as goal

@@ -1,9 +1,6 @@
 use native.Mathlib.Omega.{arith}
-use borrow.Author.Rules.{rules}
 use Rattle.markup.proofs.Rests.{tag_reach}
 use Rattle.markup.proofs.EntryPieces.{entry_tagless, entry_none, entry_off, entry_on}
-use mathlib.Core.Bool.{not}
-use mathlib.Core.Path.{ap}
 use Rattle.markup.proofs.pieces.entry_piece.Goals as goal
 
 pub returns-in_default : goal.returns-in_default

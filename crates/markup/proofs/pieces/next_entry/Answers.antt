@@ -1,4 +1,3 @@
-use borrow.Author.Rules.{rules}
 use Rattle.markup.proofs.EntryPieces.{entry_end_lem, entry_fail, tag_at_lem, entry_next}
 use Rattle.markup.proofs.pieces.next_entry.Goals as goal
 

@@ -1,5 +1,4 @@
 use native.Mathlib.Omega.{arith}
-use borrow.Author.Rules.{rules}
 use Rattle.markup.proofs.reader.next_at.Goals as goal
 
 pub returns-then-s-at : goal.returns-then-s-at

@@ -2,7 +2,6 @@ use Rattle.markup.proofs.Roots.{declared, undeclared}
 use Rattle.markup.proofs.Rests.{stands_within}
 use mathlib.Core.Path.{sym, ◌∙◌}
 use native.Mathlib.Omega.{arith}
-use borrow.Author.Rules.{rules}
 use Rattle.markup.proofs.streams.declaration_end.Goals as goal
 
 pub returns-then-stands : goal.returns-then-stands

@@ -1,4 +1,3 @@
-use borrow.Author.Rules.{rules}
 use Rattle.markup.proofs.Roots.{end_off, end_none, end_more}
 use Rattle.markup.proofs.streams.end_refusal.Goals as goal
 

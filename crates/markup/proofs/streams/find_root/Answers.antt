@@ -1,11 +1,8 @@
 use Prim.Native.Nat.{◌+◌, ◌≤◌}
 use lib.ListN.{length}
 use native.Mathlib.Omega.{arith}
-use borrow.Author.Rules.{rules}
 use Rattle.markup.proofs.Rests.{walked_at, opens_within}
 use Rattle.markup.proofs.Roots.{stream_bad, stream_none, stream_rooted}
-use mathlib.Core.Bool.{not}
-use mathlib.Core.Path.{ap}
 use Rattle.markup.proofs.streams.find_root.Goals as goal
 
 pub returns-in-Off : goal.returns-in-Off

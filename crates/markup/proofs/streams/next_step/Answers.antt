@@ -1,11 +1,8 @@
 use Prim.Native.Nat.{◌+◌, ◌≤◌}
 use native.Mathlib.Omega.{arith}
 use lib.ListN.{length}
-use borrow.Author.Rules.{rules}
 use Rattle.markup.proofs.Rests.{walked_at, opens_within}
 use Rattle.markup.proofs.RootPieces.{next_bad, next_over, next_passed, next_plain}
-use mathlib.Core.Bool.{not}
-use mathlib.Core.Path.{ap}
 use Rattle.markup.proofs.streams.next_step.Goals as goal
 
 pub returns-in-Off : goal.returns-in-Off

@@ -1,8 +1,5 @@
-use Prim.Native.Nat.{◌-◌}
 use native.Mathlib.Omega.{arith}
-use lib.ListN.{length}
-use borrow.Author.Rules.{rules}
-use Rattle.markup.proofs.RootPieces.{Coming, came_none, step_past, came_passed, came_tag, came_over, came_bad}
+use Rattle.markup.proofs.RootPieces.{came_none, step_past, came_passed, came_tag, came_over, came_bad}
 use Rattle.markup.proofs.streams.next_tag.Goals as goal
 
 pub loop-next-init : goal.loop-next-init

@@ -1,4 +1,3 @@
-use borrow.Author.Rules.{rules}
 use Rattle.markup.proofs.RootPieces.{passed_on, passed_off}
 use Rattle.markup.proofs.streams.passed_over.Goals as goal
 

@@ -1,9 +1,6 @@
 use native.Mathlib.Omega.{arith}
-use borrow.Author.Rules.{rules}
 use Rattle.markup.proofs.Rests.{tag_reach}
 use Rattle.markup.proofs.Roots.{root_tagless, root_other, root_empty, root_holds}
-use mathlib.Core.Bool.{not}
-use mathlib.Core.Path.{ap}
 use Rattle.markup.proofs.streams.root_tag.Goals as goal
 
 pub returns-in_default : goal.returns-in_default

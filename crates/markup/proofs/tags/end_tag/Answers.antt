@@ -1,11 +1,8 @@
-use mathlib.Core.Path.{sym, ◌∙◌, ap}
-use borrow.Author.Rules.{rules}
-use borrow.Author.Tests.{not-true, not-false}
+use mathlib.Core.Path.{sym, ◌∙◌}
 use Rattle.base.specs.Buffer.{part}
 use Rattle.chars.specs.Bytes.{ascii}
 use Rattle.markup.proofs.Rests.{stands_within}
 use Rattle.markup.proofs.TagEnds.{end_none, end_off, name_reached, end_on}
-use mathlib.Core.Bool.{not}
 use Rattle.markup.proofs.tags.end_tag.Goals as goal
 
 pub returns-then-not-stands : goal.returns-then-not-stands

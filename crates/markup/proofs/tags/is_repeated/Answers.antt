@@ -1,8 +1,5 @@
-use mathlib.Core.Path.{sym, ap}
-use borrow.Author.Rules.{rules}
-use borrow.Author.Tests.{not-true}
+use mathlib.Core.Path.{sym}
 use Rattle.markup.proofs.AttributeWalks.{named_given, named_missing}
-use mathlib.Core.Bool.{not}
 use Rattle.markup.proofs.tags.is_repeated.Goals as goal
 
 pub returns-then-not-marked : goal.returns-then-not-marked

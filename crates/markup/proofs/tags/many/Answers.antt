@@ -1,8 +1,5 @@
-use Prim.Native.Nat.{◌-◌}
 use native.Mathlib.Omega.{arith}
-use lib.ListN.{length}
-use borrow.Author.Rules.{rules}
-use Rattle.markup.proofs.Chunks.{chunked_read, chunked_twice, Reading, reading_none, reading_more, reading_all, reading_twice}
+use Rattle.markup.proofs.Chunks.{chunked_read, chunked_twice, reading_none, reading_more, reading_all, reading_twice}
 use Rattle.markup.proofs.tags.many.Goals as goal
 
 pub loop-count-init : goal.loop-count-init

@@ -1,6 +1,5 @@
 use Prim.Native.Nat.{◌-◌}
 use native.Mathlib.Omega.{arith}
-use borrow.Author.Rules.{rules}
 use Rattle.markup.proofs.TagEnds.{mark_is}
 use Rattle.markup.proofs.tags.mark_of.Goals as goal
 

@@ -1,4 +1,3 @@
-use borrow.Author.Rules.{rules}
 use Rattle.markup.proofs.TagEnds.{opens_is, opens_not}
 use Rattle.markup.proofs.tags.opens.Goals as goal
 

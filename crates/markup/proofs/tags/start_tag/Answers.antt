@@ -1,4 +1,3 @@
-use borrow.Author.Rules.{rules}
 use Rattle.markup.proofs.StartTags.{listed_all, listed_repeated, tag_nameless, tag_repeated, tag_is}
 use Rattle.markup.proofs.tags.start_tag.Goals as goal
 

@@ -1,4 +1,3 @@
-use borrow.Author.Rules.{rules}
 use Rattle.markup.proofs.TagEnds.{empty_end, open_end, no_end}
 use Rattle.markup.proofs.tags.tag_end.Goals as goal
 

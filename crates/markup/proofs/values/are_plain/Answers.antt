@@ -1,10 +1,7 @@
 use mathlib.Core.Path.{◌≡◌}
-use mathlib.Core.Bool.{true}
-use Prim.Native.Nat.{◌+◌, ◌-◌, ◌≤◌, ◌<◌}
+use Prim.Native.Nat.{◌+◌, ◌<◌}
 use native.Mathlib.Omega.{arith}
-use lib.ListN.{length, drop}
-use borrow.Author.Rules.{rules}
-use Rattle.markup.specs.Marks.{quotable}
+use lib.ListN.{length}
 use Rattle.markup.proofs.Units.{plain_none, plain_more, plain_done}
 use Rattle.markup.proofs.values.are_plain.Goals as goal
 

@@ -1,11 +1,8 @@
 use mathlib.Core.Path.{◌≡◌}
 use mathlib.Core.Bool.{true}
-use Prim.Native.Nat.{◌+◌, ◌-◌, ◌≤◌, ◌<◌}
-use native.Mathlib.Omega.{arith}
-use lib.ListN.{length, drop}
-use borrow.Author.Rules.{rules}
+use Prim.Native.Nat.{◌+◌, ◌-◌, ◌≤◌}
+use lib.ListN.{drop}
 use Rattle.markup.specs.Marks.{quotable}
-use Rattle.markup.proofs.Units.{plain_none, plain_more, plain_done}
 use Rattle.markup.proofs.values.are_plain.Given as goal
 
 abbrev pub invariant-loop-k : goal.invariant-loop-k

@@ -1,4 +1,3 @@
-use borrow.Author.Rules.{rules}
 use Rattle.markup.proofs.Units.{is_lt, is_gt, is_amp, is_apos, is_quot, is_none}
 use Rattle.markup.proofs.values.entity_at.Goals as goal
 

@@ -1,10 +1,6 @@
-use mathlib.Core.Path.{◌≡◌, refl, sym, ◌∙◌}
-use Prim.Native.Nat.{◌≤◌, ◌-◌}
-use native.Mathlib.Omega.{arith}
-use lib.ListN.{length, drop}
-use borrow.Author.Rules.{rules}
+use mathlib.Core.Path.{sym, ◌∙◌}
 use Rattle.chars.proofs.Tiles.{tiled_step, tiled_stop, tiled_end}
-use Rattle.markup.specs.Marks.{quotable, value_unit}
+use Rattle.markup.specs.Marks.{value_unit}
 use Rattle.markup.proofs.values.is_quotable.Goals as goal
 
 pub loop-i-init : goal.loop-i-init

@@ -1,10 +1,7 @@
-use mathlib.Core.Path.{◌≡◌, refl, sym, ◌∙◌}
+use mathlib.Core.Path.{◌≡◌}
 use Prim.Native.Nat.{◌≤◌, ◌-◌}
-use native.Mathlib.Omega.{arith}
 use lib.ListN.{length, drop}
-use borrow.Author.Rules.{rules}
-use Rattle.chars.proofs.Tiles.{tiled_step, tiled_stop, tiled_end}
-use Rattle.markup.specs.Marks.{quotable, value_unit}
+use Rattle.markup.specs.Marks.{quotable}
 use Rattle.markup.proofs.values.is_quotable.Given as goal
 
 abbrev pub invariant-loop-i : goal.invariant-loop-i

@@ -1,10 +1,5 @@
-use mathlib.Core.Path.{◌≡◌, refl, ◌∙◌, ap}
-use Prim.Native.Nat.{◌-◌, ◌≤◌}
+use mathlib.Core.Path.{refl, ◌∙◌}
 use native.Mathlib.Omega.{arith}
-use lib.ListN.{length, drop}
-use borrow.Author.Tests.{not-false}
-use Rattle.markup.specs.Marks.{quotable}
-use mathlib.Core.Bool.{not}
 use Rattle.markup.proofs.values.skip_plain.Goals as goal
 
 pub loop-i-init : goal.loop-i-init

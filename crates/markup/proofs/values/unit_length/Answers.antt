@@ -1,4 +1,3 @@
-use borrow.Author.Rules.{rules}
 use Rattle.markup.proofs.Units.{unit_less, unit_entity, unit_byte}
 use Rattle.markup.proofs.values.unit_length.Goals as goal
 
