@@ -7,7 +7,7 @@ use crate::letters::{is_same_letter, to_lower};
 use crate::starts::same_start;
 use base::bytes::byte_at;
 
-#[derive(Drop)]
+#[derive(Clone, Copy)]
 pub enum Order {
     Less,
     Equal,

@@ -1,4 +1,6 @@
 // What a call on a lent package answers, and how its rows are searched, put in and taken out.
+#![tactic(auto)]
+
 pub mod answers;
 pub mod entries;
 pub mod gate;

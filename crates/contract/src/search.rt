@@ -56,7 +56,7 @@ fn compare_second(set: usize, u: usize, other: &[u8], t: usize, id: &[u8]) -> Or
 
 // What is sought: an entry of the set, with the text of `length` bytes from `at` on in an array of foldings; of an item also the tag, which tells its
 // number. The id of a relationship goes beside it, as the array does.
-#[derive(Drop)]
+#[derive(Clone, Copy)]
 pub struct SearchKey {
     pub set: usize,
     pub at: usize,
@@ -65,7 +65,7 @@ pub struct SearchKey {
 }
 
 // A place among the rows: that of the key, or where it would stand.
-#[derive(Drop)]
+#[derive(Clone, Copy)]
 pub struct Place {
     pub row: usize,
     pub held: bool,

@@ -18,7 +18,7 @@ use chars::folding::is_equivalent;
 use chars::search::{find, find_past};
 
 // A whole item has no suffix; a piece has its number, and whether it is marked as the last.
-#[derive(Drop)]
+#[derive(Clone, Copy)]
 pub enum Suffix {
     Whole,
     Piece(usize, bool),

@@ -42,7 +42,7 @@ pub fn row_size(pkg: &[u8], i: usize) -> usize
 }
 
 // The bytes from `at` on, `length` of them.
-#[derive(Drop)]
+#[derive(Clone, Copy)]
 pub struct Span {
     pub at: usize,
     pub length: usize,
@@ -99,7 +99,7 @@ pub fn field(pkg: &[u8], i: usize, j: usize) -> &[u8]
 }
 
 // The tag of a row, and where its slot says that its first field lies.
-#[derive(Drop)]
+#[derive(Clone, Copy)]
 pub struct RowHead {
     pub tag: usize,
     pub at: usize,
