@@ -1,3 +1,5 @@
 // Scripts: calls in bytes.
+#![tactic(auto)]
+
 pub mod heads;
 pub mod numbers;
