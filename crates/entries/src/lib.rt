@@ -1,2 +1,4 @@
 // The entries of the four sets by position.
+#![tactic(auto)]
+
 pub mod listing;
