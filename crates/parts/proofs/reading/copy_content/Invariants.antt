@@ -1,0 +1,14 @@
+use Prim.Native.Nat.{◌-◌}
+use mathlib.Core.Path.{◌≡◌, refl}
+use native.Mathlib.Omega.{arith}
+use lib.ListN.{length}
+use borrow.Author.Rules.{rules}
+use Rattle.parts.specs.Copies.{Copying}
+use Rattle.parts.proofs.OutputCopies.{copying_begin, copying_more, copied_full, copied_end}
+use Rattle.parts.proofs.reading.copy_content.Given as goal
+
+abbrev pub invariant-loop-i : goal.invariant-loop-i
+invariant-loop-i l = (length l.out ≡ length l.initial.out) × Copying l.pkg l.from l.to l.offset l.initial.out l.i l.at l.skip l.out
+
+abbrev pub decreases-loop-i : goal.decreases-loop-i
+decreases-loop-i l = l.to - l.i
