@@ -1,0 +1,27 @@
+use Rattle.items.proofs.Naming.{strict_refused, strict_reserved, strict_named, named_small, named_slice}
+use borrow.Author.Rules.{rules}
+use Rattle.items.proofs.wanted.strict.Goals as goal
+
+pub returns-in_default : goal.returns-in_default
+returns-in_default c = strict_refused _ _ c.take_apart-split.ensures _ _ c.in_default.is c.refusal.ensures
+
+pub slice_bounds-is_reserved-end : goal.slice_bounds-is_reserved-end
+slice_bounds-is_reserved-end c =
+    let take_apart = c.take_apart-split in
+    named_slice _ _ take_apart.ensures _ _ c.in-Named.is
+
+pub returns-then-is_reserved : goal.returns-then-is_reserved
+returns-then-is_reserved c =
+    let take_apart = c.take_apart-split in
+    strict_reserved _ _ take_apart.ensures _ _ c.in-Named.is _ c.is_reserved.ensures c.if-is_reserved.true
+
+pub tag_of-requires : goal.tag_of-requires
+tag_of-requires c =
+    let take_apart = c.take_apart-split in
+    named_small _ _ take_apart.ensures _ _ c.in-Named.is
+
+pub returns : goal.returns
+returns c =
+    let take_apart = c.take_apart-split in
+    strict_named _ _ take_apart.ensures _ _ c.in-Named.is _ c.is_reserved.ensures _ c.tag_of.ensures
+    c.if-is_reserved.false
