@@ -1,0 +1,13 @@
+use Prim.Native.Nat.{◌-◌, ◌≤◌, ◌<◌}
+use mathlib.Core.Path.{◌≡◌, refl}
+use native.Mathlib.Omega.{arith}
+use lib.ListN.{length}
+use borrow.Author.Rules.{rules}
+use Rattle.pieces.proofs.MergedRows.{TakenUp, taken_own, taken_up_more, merged}
+use Rattle.pieces.proofs.joining.merge.Given as goal
+
+abbrev pub invariant-loop-k : goal.invariant-loop-k
+invariant-loop-k l = (0 < l.n → l.k ≤ l.n) × (length l.pkg ≡ length l.initial.pkg) × TakenUp l.initial.pkg l.pkg l.r l.k
+
+abbrev pub decreases-loop-k : goal.decreases-loop-k
+decreases-loop-k l = l.n - l.k

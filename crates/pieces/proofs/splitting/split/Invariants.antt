@@ -1,0 +1,12 @@
+use Prim.Native.Nat.{◌≤◌}
+use native.Mathlib.Omega.{arith}
+use borrow.Author.Rules.{rules}
+use mathlib.Core.Path.{refl}
+use Rattle.pieces.proofs.Splits.{Dividing, dividing_none, dividing_next, dividing_all}
+use Rattle.pieces.proofs.splitting.split.Given as goal
+
+abbrev pub invariant-loop-k : goal.invariant-loop-k
+invariant-loop-k l = (1 ≤ l.k) × (l.k ≤ l.n) × Dividing l.initial.pkg l.pkg l.r l.p l.n l.q l.rest l.k
+
+abbrev pub decreases-loop-k : goal.decreases-loop-k
+decreases-loop-k l = l.k
