@@ -5,7 +5,7 @@ ghost use Rattle.store.specs.Layout.{slot_count, count_of};
 ghost use Rattle.store.specs.Packages.{Shape};
 ghost use Rattle.streams.specs.Streams.{run_size, Lined, Listed, Streamed, Answered};
 
-use crate::markup::{put_relationship_line, put_type_line};
+use crate::entry_lines::{put_relationship_line, put_type_line};
 use contract::{DEFAULT_TAG, OVERRIDE_TAG};
 use output::writing::{Written, emit};
 use store::header::used;

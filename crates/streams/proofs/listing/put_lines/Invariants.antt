@@ -1,0 +1,13 @@
+use Prim.Native.Nat.{◌-◌}
+use mathlib.Core.Path.{◌≡◌, refl}
+use lib.ListN.{length}
+use borrow.Author.Rules.{rules}
+use Rattle.streams.specs.Streams.{Listing}
+use Rattle.streams.proofs.RowListings.{listing_begin, listing_near, listing_more, listed_end}
+use Rattle.streams.proofs.listing.put_lines.Given as goal
+
+abbrev pub invariant-loop-i : goal.invariant-loop-i
+invariant-loop-i l = (length l.out ≡ length l.initial.out) × Listing l.pkg l.from l.to l.initial.out l.start l.i l.at l.out
+
+abbrev pub decreases-loop-i : goal.decreases-loop-i
+decreases-loop-i l = l.to - l.i
