@@ -1,3 +1,5 @@
 // Relationships: put, drop and resolve.
+#![tactic(auto)]
+
 pub mod calls;
 pub mod resolving;
