@@ -1,0 +1,16 @@
+use Prim.Native.Nat.{◌-◌}
+use mathlib.Core.Path.{◌≡◌, refl, ◌∙◌}
+use native.Mathlib.Omega.{arith}
+use lib.ListN.{length, drop}
+use borrow.Author.Rules.{rules}
+use Rattle.reading.specs.Entering.{related_first}
+use Rattle.model.proofs.EntryCounts.{relationships_saying}
+use Rattle.reading.proofs.EnteredPlaces.{entered_at, entered_all}
+use Rattle.reading.proofs.AddingTurns.{AddedSo, none_added, next_fielded, next_added, all_added}
+use Rattle.reading.proofs.related.add_all.Given as goal
+
+abbrev pub invariant-loop-i : goal.invariant-loop-i
+invariant-loop-i l = AddedSo (related_first l.source l.stream) (drop l.i (related_first l.source l.stream)) l.initial.pkg l.pkg × (length l.pkg ≡ length l.initial.pkg)
+
+abbrev pub decreases-loop-i : goal.decreases-loop-i
+decreases-loop-i l = l.n - l.i
