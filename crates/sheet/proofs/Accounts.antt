@@ -1,8 +1,6 @@
 -- The program's account, from its start to the end of the input: one law for each call.
 -- Assumes nothing.
-use Rattle.std.proofs.Common.{◌≡◌, ℕ, ◌<◌, ◌≤◌, [], ◌++◌, length, take, drop, sym, refl, ap, ◌∙◌, subst, append_assoc, append-nil, arith, drop_of_length-le}
-use Rattle.io.specs.Counts.{IsPrefixLen}
-use Rattle.io.proofs.Counting.{prefix_len_of_le}
+use Rattle.std.proofs.Common.{◌≡◌, ℕ, ◌<◌, ◌≤◌, [], ◌++◌, length, take, drop, sym, refl, ap, ◌∙◌, subst, append_assoc, append-nil, arith, drop_of_length-le, length-take-le}
 use Rattle.model.specs.Sets.{Bytes}
 use Rattle.model.specs.Package.{empty}
 use Rattle.model.specs.Sheet.{lines_of, shown, sheet}
@@ -12,6 +10,10 @@ use Rattle.commands.specs.Inputs.{sheet_capacity}
 use Rattle.commands.proofs.FedLines.{unended_none}
 use Rattle.sheet.specs.Passing.{passed_none, Passes}
 use Rattle.sheet.specs.Account.{Ready, Whole}
+
+-- a part at the front, and its length
+front_len : (k : ℕ) (l : Bytes) → k ≤ length l → (k ≤ length l) × (k ≡ length (take k l))
+front_len k l h = (h, sym (length-take-le k l h))
 
 -- nothing has passed, and the package is empty
 pub ready_begin : (p line out : Bytes) → Holds p (empty sheet_capacity) → 1024 < length line → most_shown ≤ length out → Ready p line 0 [] out 0 0
@@ -52,8 +54,8 @@ module _ (p line : Bytes) (n : ℕ) (out : Bytes) (read written : ℕ) where
       last : (k ≤ length out) × (shown y.state (lines_of (take n line)) ≡ take k out')
       last = f.is y.state y.holds y.begun y.room
 
-      pub ready_last : length out' ≡ length out → IsPrefixLen k out'
-      ready_last m = prefix_len_of_le k out' (omega (arith, last.0))
+      pub ready_last : length out' ≡ length out → (k ≤ length out') × (k ≡ length (take k out'))
+      ready_last m = front_len k out' (omega (arith, last.0))
 
       printed_is : y.printed ++ take k out' ≡ sheet y.input
       printed_is =
@@ -72,8 +74,8 @@ module _ (p line : Bytes) (n : ℕ) (out : Bytes) (read written : ℕ) where
       turn : Round y.state line n piece from out n' from' k p' line' out'
       turn = f.is y.state y.holds y.wide y.begun inside y.room
 
-      pub ready_fits : length out' ≡ length out → IsPrefixLen k out'
-      ready_fits m = prefix_len_of_le k out' (omega (arith, turn.fits))
+      pub ready_fits : length out' ≡ length out → (k ≤ length out') × (k ≡ length (take k out'))
+      ready_fits m = front_len k out' (omega (arith, turn.fits))
 
       pub ready_more : length out' ≡ length out → length line' ≡ length line → (written' : ℕ) → Passes written (take k out') written'
           → Ready p' line' n' (drop from' piece) out' read written'
