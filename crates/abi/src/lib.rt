@@ -1,4 +1,6 @@
 // The engine for C and Rust: each judgement and each call as one exported function. A slice is passed as its pointer and its length.
+#![tactic(auto)]
+
 pub mod calls;
 pub mod fields;
 pub mod iris;

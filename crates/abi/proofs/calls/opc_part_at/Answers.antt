@@ -1,0 +1,6 @@
+use Rattle.abi.proofs.Handing.{replied}
+use borrow.Author.Rules.{rules}
+use Rattle.abi.proofs.calls.opc_part_at.Goals as goal
+
+pub returns : goal.returns
+returns c = replied c.part_at.ensures (c.of_written.ensures _)

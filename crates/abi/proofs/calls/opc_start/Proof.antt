@@ -1,9 +1,0 @@
-use Rattle.abi.proofs.Handing.{replied}
-use borrow.Author.Rules.{rules}
-use Rattle.abi.proofs.calls.opc_start.Statement.{statement}
-use Rattle.abi.proofs.calls.opc_start.Tie as tie
-
-pub opc_start_spec : {M : Type 1} → statement M
-opc_start_spec =
-    tie.close (tie.spec
-    (λ c κs. search rules) (λ c κs. search rules) (λ c. search rules) (λ c. search replied))

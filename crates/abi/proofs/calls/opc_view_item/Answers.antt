@@ -1,0 +1,6 @@
+use mathlib.Core.Path.{refl}
+use borrow.Author.Rules.{rules}
+use Rattle.abi.proofs.calls.opc_view_item.Goals as goal
+
+pub returns : goal.returns
+returns c = rw c.of_span.ensures (record { reply = refl; viewed = c.view_place.ensures })

@@ -1,0 +1,6 @@
+use Rattle.abi.proofs.Handing.{replied}
+use borrow.Author.Rules.{rules}
+use Rattle.abi.proofs.fields.opc_put_default.Goals as goal
+
+pub returns : goal.returns
+returns c = search replied

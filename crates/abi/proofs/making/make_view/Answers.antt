@@ -1,0 +1,6 @@
+use Rattle.abi.proofs.Telling.{told_view}
+use borrow.Author.Rules.{rules}
+use Rattle.abi.proofs.making.make_view.Goals as goal
+
+pub returns : goal.returns
+returns c = search told_view
