@@ -1,4 +1,6 @@
 // Worked lists of calls: what the last one answers follows from the theorem over every list. Every call of the ledger stands in one of them.
+#![tactic(auto)]
+
 ghost use Rattle.std.specs.Prelude.{◌≡◌, true, ◌≤◌, length};
 ghost use Rattle.chars.specs.Bytes.{ascii};
 ghost use Rattle.names.specs.Iris.{package_iri};
