@@ -8,10 +8,9 @@ use native.Mathlib.Nat.{zero-add}
 use native.Mathlib.Omega.{arith}
 use lib.ListN.{length, get_or, take, drop}
 use borrow.Author.Tests.{ne_eqb}
-use Rattle.chars.specs.Bytes.{within}
 use Rattle.base.proofs.Lists.{take_rest}
 use Rattle.model.specs.Sets.{Bytes, remove}
-use Rattle.model.specs.Places.{place, spot}
+use Rattle.model.specs.Places.{spot}
 use Rattle.model.specs.Fields.{first, prefix_of, suffix_of, item_field}
 use Rattle.model.specs.Package.{State, Item, item_key, key_of_item, item_at}
 use Rattle.model.specs.Puts.{with_items, put_item_refusal, drop_item_refusal, misfits}

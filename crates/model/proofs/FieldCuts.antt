@@ -4,7 +4,6 @@ use Prim.Native.Nat.{ℕ, ◌≤◌, ◌<◌}
 use native.Mathlib.Omega.{arith}
 use mathlib.Core.Path.{◌≡◌, refl, sym, ap, ◌∙◌}
 use mathlib.Core.Bool.{Bool, true, false, not, cond}
-use mathlib.Core.List.{◌∷◌, []}
 use lib.Dec.{leb, eqb}
 use lib.ListN.{length, take}
 use lib.Seq.{take_all, length-take-le}
@@ -16,7 +15,7 @@ use Rattle.names.specs.Iris.{iri, package_iri}
 use Rattle.names.proofs.Lengths.{name_few, extension_size, media_type_size, identifier_size, iri_few, package_few}
 use Rattle.targets.specs.Targets.{internal, internal_refusal, target_refusal}
 use Rattle.model.specs.Sets.{Bytes}
-use Rattle.model.specs.Fields.{when, first, default_fields, override_fields, relationship_fields}
+use Rattle.model.specs.Fields.{when, default_fields, override_fields, relationship_fields}
 use Rattle.model.proofs.Refusals.{all_none, unmet}
 
 -- what passes a test has 255 bytes at most

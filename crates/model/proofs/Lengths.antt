@@ -1,6 +1,6 @@
 -- How long a text is that is quoted.
 -- Assumes nothing.
-use Prim.Native.Nat.{suc, ◌+◌, ◌*◌, ◌≤◌}
+use Prim.Native.Nat.{suc, ◌*◌, ◌≤◌}
 use mathlib.Core.Bool.{Bool, true, false, cond}
 use mathlib.Core.List.{[], ◌∷◌, ◌++◌, flat_map}
 use native.Mathlib.Omega.{arith}

@@ -13,7 +13,7 @@ use borrow.Author.Tests.{eqb-true, eqb-false}
 use Rattle.chars.specs.Bytes.{ascii, letter, digit, member}
 use Rattle.chars.specs.Lists.{every, first_passing, lacks, same, tiled}
 use Rattle.chars.specs.declared.search.Alphabet.TheVariants.{Id}
-use Rattle.markup.specs.Marks.{name_first, quotable, value_unit, value_byte, unquoted}
+use Rattle.markup.specs.Marks.{name_first, value_unit, value_byte, unquoted}
 use Rattle.markup.specs.Tags.{attribute_named, distinct, own}
 use Rattle.markup.specs.Entries.{Entry, SaysDefault, SaysOverride, SaysRelationship, types_entry, relationship_entry, entry_of}
 use Rattle.markup.specs.Streams.{with_entry, entries_in}

@@ -6,8 +6,8 @@ use mathlib.Core.List.{map, List, [], ◌∷◌}
 use native.Mathlib.Omega.{arith}
 use lib.ListN.{drop, length, length-map, get_or}
 use Rattle.chars.specs.Bytes.{dot, slash, ascii}
-use Rattle.chars.specs.Folding.{fold, lower, equivalent}
-use Rattle.chars.specs.Lists.{last_byte, split, all, after_last, same}
+use Rattle.chars.specs.Folding.{fold, lower}
+use Rattle.chars.specs.Lists.{last_byte, split, all, after_last}
 use Rattle.chars.proofs.FoldedTexts.{take_map, drop_map, equivalent_folded, split_fold, last_fold, ends_in_fold}
 use Rattle.names.specs.Names.{segment, part_name, last_segment, folder, reserved}
 use Rattle.chars.proofs.Foldings.{get_or_fold, lower_eqb, tiled_fold}

@@ -10,7 +10,7 @@ use lib.ListN.{take, length, drop, length-drop, length-append}
 use lib.Seq.{length-take-le, drop-drop}
 use borrow.Author.Tests.{not-true, not-false, eq-eqb, ne_eqb, lt-leb, le-leb}
 use Rattle.chars.specs.Bytes.{ascii}
-use Rattle.chars.specs.Folding.{equivalent, order}
+use Rattle.chars.specs.Folding.{equivalent}
 use Rattle.chars.specs.Lists.{is_empty, same}
 use Rattle.base.proofs.Lists.{take_rest, drop_take}
 use Rattle.iri.specs.Components.{authority_of, path_of, authority_length, after_scheme}

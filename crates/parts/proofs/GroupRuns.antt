@@ -9,7 +9,6 @@ use lib.Dec.{eqb}
 use lib.ListN.{length, get_or, drop, length-drop, length-map, drop_of_length-le}
 use lib.Seq.{length-take-le, get_or-take, get_or-drop}
 use borrow.Author.Tests.{not-true, not-false}
-use Rattle.base.specs.Buffer.{part}
 use Rattle.base.proofs.Bools.{not_passing}
 use Rattle.chars.specs.Folding.{lower, fold, equivalent, order}
 use Rattle.chars.specs.FoldedNames.{folded_size}

@@ -20,7 +20,7 @@ use Rattle.model.specs.Sets.{Bytes}
 use Rattle.model.specs.Fields.{first}
 use Rattle.model.specs.Package.{Item, State, no_item, item_limit, charge, group, is_part, spelling, content}
 use Rattle.model.specs.Cutting.{is_whole, cut_made, overfull, cut_refusal, suffix_sum}
-use Rattle.model.specs.Calls.{CutPart, Numbered, cut}
+use Rattle.model.specs.Calls.{CutPart, Numbered}
 use Rattle.model.proofs.Numbers.{numbered, zero_numbered}
 use Rattle.model.proofs.Wholes.{OneWhole, part_some, whole_part}
 use Rattle.model.proofs.Cutting.{group_named}

@@ -14,7 +14,6 @@ use Rattle.names.specs.Names.{part_name}
 use Rattle.names.specs.Items.{spelled}
 use Rattle.names.specs.declared.items.Suffix.TheVariants.{Piece}
 use Rattle.model.specs.Sets.{Bytes}
-use Rattle.model.specs.Fields.{whole}
 use Rattle.model.specs.Package.{Item, State, no_item, group, is_part, content, spelling}
 use Rattle.model.specs.Cutting.{is_whole, quotient, rest, pieces, cut_made, cut_refusal}
 use Rattle.model.specs.Good.{Good}

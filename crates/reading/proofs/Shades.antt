@@ -1,6 +1,6 @@
 -- How Defaults, Overrides and relationships are noted: their shades have their keys, accepted fields, and fit the shadow.
 -- Assumes nothing.
-use Prim.Native.Nat.{suc, ◌-◌, ◌≤◌}
+use Prim.Native.Nat.{suc, ◌≤◌}
 use mathlib.Core.Path.{◌≡◌, refl, ap, sym, ◌∙◌}
 use mathlib.Core.Bool.{not}
 use mathlib.Core.List.{[]}
@@ -15,7 +15,7 @@ use Rattle.names.proofs.Lengths.{part_name_size, extension_size, identifier_size
 use Rattle.markup.specs.declared.entries.Kind.TheVariants.{Types, Relationships}
 use Rattle.model.specs.Sets.{Bytes, key_order, is_equal, same_key, insert}
 use Rattle.model.specs.Fields.{type_field, source_field, relationship_type_field, target_field, default_fields, override_fields, relationship_fields}
-use Rattle.model.specs.Package.{State, Default, Override, Relationship, Kind, default_kind, override_kind, relationship_kind, relationship_key, charge}
+use Rattle.model.specs.Package.{State, Default, Override, Relationship, Kind, default_kind, override_kind, relationship_kind, relationship_key}
 use Rattle.model.specs.Puts.{put_in}
 use Rattle.model.specs.Reading.{ADefault, AnOverride, ARelationship}
 use Rattle.model.specs.Opened.{everything}

@@ -15,7 +15,7 @@ use Rattle.chars.specs.Bytes.{number_sign}
 use Rattle.chars.specs.Lists.{index_of}
 use Rattle.chars.proofs.Searches.{index_le}
 use Rattle.names.specs.Iris.{package_iri}
-use Rattle.output.specs.Answers.{Answer, answer, Text, Refused, filled}
+use Rattle.output.specs.Answers.{Answer, answer, Text, filled}
 use Rattle.iri.specs.References.{resolve}
 use Rattle.targets.specs.Targets.{resolve_path}
 use Rattle.pack.specs.Pack.{unfragmented, pack_iri}

@@ -19,7 +19,7 @@ use Rattle.store.proofs.Removing.{size_used}
 use Rattle.store.proofs.SlotWrites.{slot_kind}
 use Rattle.store.proofs.Moving.{same_or_other}
 use Rattle.store.proofs.Tabulated.{tabulate_replace_two, total_replace, length_replace, get_or_replace}
-use Rattle.store.proofs.PassedSlots.{Pass, few, long, few_j, few_i, q12, long2, len3, is_clear, clear, past, below_i, low_j, heap_kept, head_kept, slot_other, off_j, n0_j, n1_j, n2_j, n3_j, tag_j, off_i, n0_i, n1_i, n2_i, n3_i, tag_i, none_from, none_to, inside_from, inside_to, name_from, enough}
+use Rattle.store.proofs.PassedSlots.{Pass, long, few_j, few_i, q12, long2, len3, is_clear, clear, past, below_i, low_j, heap_kept, head_kept, slot_other, off_j, n0_j, n1_j, n2_j, n3_j, tag_j, off_i, n0_i, n1_i, n2_i, n3_i, tag_i, none_from, none_to, inside_from, inside_to, name_from, enough}
 use Rattle.store.proofs.SentRows.{sent_cap, sent_count, sent_used, sent_kind, sent_within, sent_size, clear_row, clear_inside, clear_apart}
 
 module _ {l m1 m2 m : List ℕ} {n e x k j i from to d : ℕ} (W : Pass l m1 m2 m n e x k j i from to d) where

@@ -9,7 +9,7 @@ use lib.ListN.{length}
 use Rattle.base.specs.Buffer.{part, splice}
 use Rattle.store.specs.Buffer.{num4, le4}
 use Rattle.store.specs.Layout.{heap_start, count_of, end_of, slot_at, slot_of, off_of, size_of, used_of}
-use Rattle.store.specs.Packages.{Sound, Passing, passed}
+use Rattle.store.specs.Packages.{Sound, Passing}
 use Rattle.store.specs.Places.{Sent}
 use Rattle.store.proofs.RowPlaces.{three, Like, length_f0, length_f2, length_f3}
 use Rattle.store.proofs.SlotWrites.{slot_length, slot_others, slot_kept, slot_now, slot_heap, slot_head}

@@ -6,8 +6,8 @@ use mathlib.Core.Bool.{true}
 use mathlib.Core.List.{List}
 use lib.ListN.{length, length-map, take}
 use Rattle.chars.specs.Bytes.{slash}
-use Rattle.chars.specs.Folding.{fold, lower, equivalent}
-use Rattle.chars.specs.Lists.{after_last, same}
+use Rattle.chars.specs.Folding.{fold, lower}
+use Rattle.chars.specs.Lists.{after_last}
 use Rattle.chars.proofs.FoldedTexts.{take_map, fold_append, last_fold, root_fold}
 use Rattle.iri.specs.References.{relative_path}
 use Rattle.iri.proofs.FoldedPaths.{relative_path_fold}

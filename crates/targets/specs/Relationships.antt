@@ -1,6 +1,6 @@
 -- Relationships part of a source, and back.
 -- Assumes nothing.
-use Rattle.std.specs.Prelude.{ℕ, ◌+◌, ◌-◌, ◌≡◌, true, ◌&&◌, List, [], ◌++◌, leb, eqb, length, take}
+use Rattle.std.specs.Prelude.{ℕ, ◌-◌, ◌≡◌, true, ◌&&◌, List, [], ◌++◌, leb, eqb, length, take}
 use Rattle.chars.specs.Bytes.{ascii, slash}
 use Rattle.chars.specs.Lists.{after_last}
 use Rattle.chars.specs.Folding.{equivalent}

@@ -1,6 +1,6 @@
 -- What the inner functions ensure of scratch that a caller lends.
 -- Assumes nothing.
-use Rattle.std.specs.Prelude.{ℕ, ◌-◌, ◌≡◌, List, length, take}
+use Rattle.std.specs.Prelude.{ℕ, ◌≡◌, List, length, take}
 use Rattle.iri.specs.References.{target}
 use Rattle.targets.specs.Targets.{resolve_path, internal_refusal}
 use Rattle.targets.specs.declared.targets.Name.{Name}

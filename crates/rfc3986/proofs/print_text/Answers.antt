@@ -1,6 +1,5 @@
 use mathlib.Core.Path.{sym}
 use lib.Seq.{length-take-le}
-use borrow.Author.Rules.{rules}
 use Rattle.rfc3986.proofs.print_text.Goals as goal
 
 pub slice_bounds-write_all-end : goal.slice_bounds-write_all-end

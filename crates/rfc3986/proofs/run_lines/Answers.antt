@@ -1,6 +1,4 @@
-use Prim.Native.Nat.{◌≤◌, ◌-◌, ◌+◌}
 use native.Mathlib.Omega.{arith}
-use lib.ListN.{length}
 use Rattle.chars.proofs.Splits.{stretch_le}
 use borrow.Author.Rules.{rules}
 use Rattle.rfc3986.proofs.run_lines.Goals as goal

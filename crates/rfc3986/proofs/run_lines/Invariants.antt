@@ -1,8 +1,5 @@
 use Prim.Native.Nat.{◌≤◌, ◌-◌, ◌+◌}
-use native.Mathlib.Omega.{arith}
 use lib.ListN.{length}
-use Rattle.chars.proofs.Splits.{stretch_le}
-use borrow.Author.Rules.{rules}
 use Rattle.rfc3986.proofs.run_lines.Given as goal
 
 abbrev pub invariant-loop-i : goal.invariant-loop-i

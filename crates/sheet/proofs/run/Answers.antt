@@ -1,4 +1,4 @@
-use Rattle.std.proofs.Common.{arith, rules}
+use Rattle.std.proofs.Common.{arith}
 use Rattle.commands.proofs.EveryInput.{started_holds}
 use Rattle.sheet.proofs.Accounts.{ready_begin, ready_last, ready_whole}
 use Rattle.sheet.proofs.run.Goals as goal

@@ -1,5 +1,4 @@
-use Rattle.std.proofs.Common.{◌≡◌, [], length, refl, ◌∙◌, arith}
-use Rattle.sheet.specs.Account.{Ready}
+use Rattle.std.proofs.Common.{refl, ◌∙◌, arith}
 use Rattle.sheet.proofs.run_all.Goals as goal
 
 pub loop-turns-init : goal.loop-turns-init

@@ -1,4 +1,4 @@
-use Rattle.std.proofs.Common.{◌≡◌, [], length, refl, ◌∙◌, arith}
+use Rattle.std.proofs.Common.{◌≡◌, [], length}
 use Rattle.sheet.specs.Account.{Ready}
 use Rattle.sheet.proofs.run_all.Given as goal
 

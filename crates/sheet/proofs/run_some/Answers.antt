@@ -1,5 +1,4 @@
-use Rattle.std.proofs.Common.{◌≡◌, ◌-◌, ◌≤◌, length, drop, ◌∙◌, arith, rules}
-use Rattle.sheet.specs.Account.{Ready}
+use Rattle.std.proofs.Common.{◌∙◌, arith, rules}
 use Rattle.sheet.proofs.Accounts.{ready_read, ready_fits, ready_more, ready_through}
 use Rattle.sheet.proofs.run_some.Goals as goal
 

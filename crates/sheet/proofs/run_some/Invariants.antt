@@ -1,6 +1,5 @@
-use Rattle.std.proofs.Common.{◌≡◌, ◌-◌, ◌≤◌, length, drop, ◌∙◌, arith, rules}
+use Rattle.std.proofs.Common.{◌≡◌, ◌-◌, ◌≤◌, length, drop}
 use Rattle.sheet.specs.Account.{Ready}
-use Rattle.sheet.proofs.Accounts.{ready_read, ready_fits, ready_more, ready_through}
 use Rattle.sheet.proofs.run_some.Given as goal
 
 abbrev pub invariant-loop-i : goal.invariant-loop-i

@@ -2,7 +2,6 @@ use native.Mathlib.Omega.{arith}
 use mathlib.Core.Path.{◌∙◌}
 use Rattle.contract.specs.Ran.{none, more}
 use Rattle.worked.proofs.WorkedList.{ledger_answer, led_last}
-use borrow.Author.Rules.{rules}
 use Rattle.worked.proofs.led.Goals as goal
 
 pub shape_of-p : goal.shape_of-p

@@ -3,7 +3,6 @@ use mathlib.Core.Path.{◌∙◌}
 use Rattle.contract.specs.Ran.{none, more}
 use Rattle.worked.proofs.WorkedList.{ledger_answer}
 use Rattle.worked.proofs.MoreLists.{linked_last}
-use borrow.Author.Rules.{rules}
 use Rattle.worked.proofs.linked.Goals as goal
 
 pub shape_of-p : goal.shape_of-p

@@ -3,7 +3,6 @@ use mathlib.Core.Path.{◌∙◌}
 use Rattle.contract.specs.Ran.{none, more}
 use Rattle.worked.proofs.WorkedList.{ledger_answer, found_length}
 use Rattle.worked.proofs.MoreLists.{recut_last}
-use borrow.Author.Rules.{rules}
 use Rattle.worked.proofs.recut.Goals as goal
 
 pub shape_of-p : goal.shape_of-p

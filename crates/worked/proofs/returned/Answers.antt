@@ -2,7 +2,6 @@ use native.Mathlib.Omega.{arith}
 use mathlib.Core.Path.{sym, ◌∙◌}
 use lib.Seq.{length-take-le}
 use Rattle.worked.proofs.Returning.{never_short, never_refused, bytes_few, resolved_back}
-use borrow.Author.Rules.{rules}
 use Rattle.worked.proofs.returned.Goals as goal
 
 pub slice_bounds-resolve_pack-end : goal.slice_bounds-resolve_pack-end

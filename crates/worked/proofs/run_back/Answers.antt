@@ -1,6 +1,5 @@
 use borrow.Author.Tests.{eq-eqb}
 use Rattle.worked.proofs.Returning.{example_composed, example_end}
-use borrow.Author.Rules.{rules}
 use Rattle.worked.proofs.run_back.Goals as goal
 
 pub returned-requires : goal.returned-requires

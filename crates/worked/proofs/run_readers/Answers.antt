@@ -1,5 +1,4 @@
 use borrow.Author.Tests.{eq-eqb}
-use borrow.Author.Rules.{rules}
 use Rattle.worked.proofs.run_readers.Goals as goal
 
 pub expect-requires-2 : goal.expect-requires-2

@@ -7,7 +7,6 @@ use Rattle.model.specs.Sets.{Bytes}
 use Rattle.worked.specs.Last.{tiff_type, joined_from, linked_text}
 use Rattle.worked.proofs.WorkedList.{led_end}
 use Rattle.worked.proofs.MoreLists.{wrote_output, named_output}
-use borrow.Author.Rules.{rules}
 use Rattle.worked.proofs.run_writers.Goals as goal
 
 pub expect-requires : goal.expect-requires

@@ -3,7 +3,6 @@ use mathlib.Core.Path.{◌∙◌}
 use Rattle.contract.specs.Ran.{none, more}
 use Rattle.worked.proofs.WorkedList.{ledger_answer}
 use Rattle.worked.proofs.MoreLists.{typed_last}
-use borrow.Author.Rules.{rules}
 use Rattle.worked.proofs.typed.Goals as goal
 
 pub returns : goal.returns

@@ -4,7 +4,6 @@ use Rattle.output.specs.Answers.{Answer}
 use Rattle.contract.specs.Ran.{none, more}
 use Rattle.worked.proofs.WorkedList.{ledger_answer}
 use Rattle.worked.proofs.MoreLists.{viewed_last}
-use borrow.Author.Rules.{rules}
 use Rattle.worked.proofs.viewed.Goals as goal
 
 pub returns : goal.returns

@@ -2,7 +2,6 @@ use native.Mathlib.Omega.{arith}
 use mathlib.Core.Path.{◌∙◌}
 use Rattle.contract.specs.Ran.{none, more}
 use Rattle.worked.proofs.WorkedList.{worked_last, ledger_answer, found_length}
-use borrow.Author.Rules.{rules}
 use Rattle.worked.proofs.worked.Goals as goal
 
 pub returns : goal.returns

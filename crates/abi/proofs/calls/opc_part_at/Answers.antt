@@ -1,5 +1,4 @@
 use Rattle.abi.proofs.Handing.{replied}
-use borrow.Author.Rules.{rules}
 use Rattle.abi.proofs.calls.opc_part_at.Goals as goal
 
 pub returns : goal.returns

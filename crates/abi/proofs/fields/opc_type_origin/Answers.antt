@@ -1,5 +1,4 @@
 use Rattle.abi.proofs.Handing.{replied}
-use borrow.Author.Rules.{rules}
 use Rattle.abi.proofs.fields.opc_type_origin.Goals as goal
 
 pub returns : goal.returns

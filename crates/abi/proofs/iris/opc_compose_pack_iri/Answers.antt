@@ -1,6 +1,5 @@
 use Rattle.pack.specs.Pack.{compose}
 use Rattle.abi.proofs.Handing.{written_handed}
-use borrow.Author.Rules.{rules}
 use Rattle.abi.proofs.iris.opc_compose_pack_iri.Goals as goal
 
 pub returns : goal.returns

@@ -1,6 +1,5 @@
 use Rattle.targets.specs.Relationships.{relationships_part}
 use Rattle.abi.proofs.Handing.{written_handed}
-use borrow.Author.Rules.{rules}
 use Rattle.abi.proofs.iris.opc_relationships_part.Goals as goal
 
 pub returns : goal.returns

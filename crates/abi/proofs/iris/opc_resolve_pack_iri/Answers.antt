@@ -1,6 +1,5 @@
 use Rattle.pack.specs.Pack.{resolve_pack}
 use Rattle.abi.proofs.Handing.{located_handed}
-use borrow.Author.Rules.{rules}
 use Rattle.abi.proofs.iris.opc_resolve_pack_iri.Goals as goal
 
 pub returns : goal.returns

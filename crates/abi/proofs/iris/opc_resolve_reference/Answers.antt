@@ -1,6 +1,5 @@
 use Rattle.iri.specs.References.{resolve_reference}
 use Rattle.abi.proofs.Handing.{written_handed}
-use borrow.Author.Rules.{rules}
 use Rattle.abi.proofs.iris.opc_resolve_reference.Goals as goal
 
 pub returns : goal.returns

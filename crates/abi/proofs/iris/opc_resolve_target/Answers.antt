@@ -1,6 +1,5 @@
 use Rattle.targets.specs.Targets.{resolve_target}
 use Rattle.abi.proofs.Handing.{written_handed}
-use borrow.Author.Rules.{rules}
 use Rattle.abi.proofs.iris.opc_resolve_target.Goals as goal
 
 pub returns : goal.returns

@@ -1,6 +1,5 @@
 use Rattle.targets.specs.Relationships.{source_part}
 use Rattle.abi.proofs.Handing.{written_handed}
-use borrow.Author.Rules.{rules}
 use Rattle.abi.proofs.iris.opc_source_of_relationships_part.Goals as goal
 
 pub returns : goal.returns

@@ -1,6 +1,5 @@
 use mathlib.Core.Path.{sym, ap, ◌∙◌}
 use Rattle.abi.specs.Replies.{order_number}
-use borrow.Author.Rules.{rules}
 use Rattle.abi.proofs.judgements.opc_compare_folded.Goals as goal
 
 pub returns-in-Less : goal.returns-in-Less

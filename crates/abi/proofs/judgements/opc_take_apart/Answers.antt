@@ -1,6 +1,5 @@
 use mathlib.Core.Path.{◌∙◌}
 use Rattle.abi.proofs.ItemReplies.{whole_reply, piece_reply, refused_reply}
-use borrow.Author.Rules.{rules}
 use Rattle.abi.proofs.judgements.opc_take_apart.Goals as goal
 
 pub returns-in_default : goal.returns-in_default

@@ -1,5 +1,4 @@
 use Rattle.abi.proofs.Handing.{entry_replied}
-use borrow.Author.Rules.{rules}
 use Rattle.abi.proofs.listing.opc_entry_at.Goals as goal
 
 pub returns : goal.returns

@@ -1,6 +1,5 @@
 use mathlib.Core.Path.{sym}
 use lib.Seq.{length-take-le}
-use borrow.Author.Rules.{rules}
 use Rattle.abi.proofs.Recording.{some_fits, copied_some}
 use Rattle.abi.proofs.making.copy_some.Goals as goal
 

@@ -1,7 +1,6 @@
 use mathlib.Core.Path.{refl}
 use native.Mathlib.Omega.{arith}
 use Rattle.abi.proofs.Telling.{told_coded, told_plain}
-use borrow.Author.Rules.{rules}
 use Rattle.abi.proofs.making.make_field_change.Goals as goal
 
 pub returns-then-code-eq4 : goal.returns-then-code-eq4
@@ -22,6 +21,6 @@ returns-then-code-eq8 c = search (told_coded, told_plain)
 pub returns : goal.returns
 returns c =
     record {
-  is = λ lent. told_coded 9 _ _ _ _ _ _ _ _ _ _ _ _ (omega arith)
-      (told_plain (λ a. refl) (λ l a. refl) c.opc_drop_relationship.ensures lent);
-}
+      is = λ lent. told_coded 9 _ _ _ _ _ _ _ _ _ _ _ _ (omega arith)
+          (told_plain (λ a. refl) (λ l a. refl) c.opc_drop_relationship.ensures lent);
+    }

@@ -1,7 +1,6 @@
 use mathlib.Core.Path.{refl}
 use native.Mathlib.Omega.{arith}
 use Rattle.abi.proofs.Telling.{told_coded, told_plain}
-use borrow.Author.Rules.{rules}
 use Rattle.abi.proofs.making.make_look.Goals as goal
 
 pub returns-then-code-eq10 : goal.returns-then-code-eq10

@@ -1,6 +1,5 @@
 use native.Mathlib.Omega.{arith}
 use Rattle.abi.proofs.Telling.{told_coded, told_print}
-use borrow.Author.Rules.{rules}
 use Rattle.abi.proofs.making.make_print.Goals as goal
 
 pub returns-then-code-eq13 : goal.returns-then-code-eq13

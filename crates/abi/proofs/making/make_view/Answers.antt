@@ -1,5 +1,4 @@
 use Rattle.abi.proofs.Telling.{told_view}
-use borrow.Author.Rules.{rules}
 use Rattle.abi.proofs.making.make_view.Goals as goal
 
 pub returns : goal.returns

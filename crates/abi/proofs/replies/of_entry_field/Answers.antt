@@ -3,7 +3,6 @@ use mathlib.Core.List.{[], ◌∷◌}
 use Rattle.entries.specs.Promise.{of_entry_field}
 use Rattle.entries.specs.declared.listing.EntryField.{EntryField}
 use Rattle.abi.proofs.Handing.{hands, hands_refusal}
-use borrow.Author.Rules.{rules}
 use Rattle.abi.proofs.replies.of_entry_field.Goals as goal
 
 pub returns-in-Copied : goal.returns-in-Copied

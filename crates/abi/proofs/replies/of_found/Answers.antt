@@ -2,7 +2,6 @@ use mathlib.Core.Path.{refl, ap}
 use mathlib.Core.List.{[], ◌∷◌}
 use Rattle.contract.specs.Answers.{of_found}
 use Rattle.abi.proofs.Handing.{hands, hands_refusal}
-use borrow.Author.Rules.{rules}
 use Rattle.abi.proofs.replies.of_found.Goals as goal
 
 pub returns-in-Length : goal.returns-in-Length

@@ -3,7 +3,6 @@ use mathlib.Core.List.{[], ◌∷◌}
 use Rattle.relationships.specs.Resolutions.{of_resolution}
 use Rattle.relationships.specs.declared.resolving.Resolution.{Resolution}
 use Rattle.abi.proofs.Handing.{hands, hands_refusal}
-use borrow.Author.Rules.{rules}
 use Rattle.abi.proofs.replies.of_resolution.Goals as goal
 
 pub returns-in-Internal : goal.returns-in-Internal

@@ -3,7 +3,6 @@ use mathlib.Core.List.{[], ◌∷◌}
 use Rattle.pack.specs.Pack.{of_resolved}
 use Rattle.pack.specs.declared.pack.Resolved.{Resolved}
 use Rattle.abi.proofs.Handing.{hands, hands_refusal}
-use borrow.Author.Rules.{rules}
 use Rattle.abi.proofs.replies.of_resolved.Goals as goal
 
 pub returns-in-Found : goal.returns-in-Found

@@ -3,7 +3,6 @@ use mathlib.Core.List.{[], ◌∷◌}
 use Rattle.types.specs.TypeOrigins.{of_type_origin}
 use Rattle.types.specs.declared.origin.TypeOrigin.{TypeOrigin}
 use Rattle.abi.proofs.Handing.{hands, hands_refusal}
-use borrow.Author.Rules.{rules}
 use Rattle.abi.proofs.replies.of_type_origin.Goals as goal
 
 pub returns-in-Override : goal.returns-in-Override

@@ -3,7 +3,6 @@ use mathlib.Core.List.{[], ◌∷◌}
 use Rattle.output.specs.Answers.{of_written}
 use Rattle.output.specs.declared.writing.Written.{Written}
 use Rattle.abi.proofs.Handing.{hands, hands_refusal}
-use borrow.Author.Rules.{rules}
 use Rattle.abi.proofs.replies.of_written.Goals as goal
 
 pub returns-in-Bytes : goal.returns-in-Bytes

@@ -1,9 +1,6 @@
-use Prim.Native.Nat.{◌-◌}
-use mathlib.Core.Path.{◌≡◌, refl, ◌∙◌}
+use mathlib.Core.Path.{refl, ◌∙◌}
 use native.Mathlib.Omega.{arith}
-use lib.ListN.{length}
 use borrow.Author.Rules.{rules}
-use Rattle.abi.specs.Turns.{Going}
 use Rattle.abi.proofs.ScriptRuns.{going_begins, going_ended, going_fits, going_stops, going_on}
 use Rattle.abi.proofs.LedgerRuns.{run_as}
 use Rattle.abi.proofs.running.opc_run.Goals as goal
@@ -35,11 +32,10 @@ pub loop-read-smaller : goal.loop-read-smaller
 loop-read-smaller c = search (going_on, rules)
 
 pub loop-read-preserved : goal.loop-read-preserved
-loop-read-preserved c =
-    (
-      (going_on c.loop-read.invariant.0 c.take_turn-t.ensures c.if-t-eq0.false).1,
-      c.take_turn-t.auto.pkg ∙ c.loop-read.invariant.1,
-    )
+loop-read-preserved c = (
+  (going_on c.loop-read.invariant.0 c.take_turn-t.ensures c.if-t-eq0.false).1,
+  c.take_turn-t.auto.pkg ∙ c.loop-read.invariant.1,
+)
 
 pub returns : goal.returns
 returns c = search (going_ended, run_as)

@@ -1,11 +1,7 @@
 use Prim.Native.Nat.{◌-◌}
-use mathlib.Core.Path.{◌≡◌, refl, ◌∙◌}
-use native.Mathlib.Omega.{arith}
+use mathlib.Core.Path.{◌≡◌}
 use lib.ListN.{length}
-use borrow.Author.Rules.{rules}
 use Rattle.abi.specs.Turns.{Going}
-use Rattle.abi.proofs.ScriptRuns.{going_begins, going_ended, going_fits, going_stops, going_on}
-use Rattle.abi.proofs.LedgerRuns.{run_as}
 use Rattle.abi.proofs.running.opc_run.Given as goal
 
 abbrev pub invariant-loop-read : goal.invariant-loop-read

@@ -1,4 +1,3 @@
-use borrow.Author.Rules.{rules}
 use native.Mathlib.Omega.{arith}
 use Rattle.abi.proofs.Recording.{put_reply_is}
 use Rattle.abi.proofs.running.put_reply.Goals as goal

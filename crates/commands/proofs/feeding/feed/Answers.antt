@@ -1,9 +1,5 @@
-use Prim.Native.Nat.{◌-◌}
-use mathlib.Core.Path.{◌≡◌, refl, ◌∙◌}
+use mathlib.Core.Path.{refl, ◌∙◌}
 use native.Mathlib.Omega.{arith}
-use lib.ListN.{length}
-use borrow.Author.Rules.{rules}
-use Rattle.commands.specs.Feeding.{Feeding}
 use Rattle.commands.proofs.FedLines.{feeding_begin, out_length, feeding_more, feed_stop, feed_end}
 use Rattle.commands.proofs.feeding.feed.Goals as goal
 

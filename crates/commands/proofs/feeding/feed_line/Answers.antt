@@ -1,5 +1,4 @@
 use Rattle.commands.proofs.FedLines.{taken_length, gathered_in, step_line, step_part}
-use borrow.Author.Rules.{rules}
 use Rattle.commands.proofs.feeding.feed_line.Goals as goal
 
 pub returns-then-piece-at : goal.returns-then-piece-at

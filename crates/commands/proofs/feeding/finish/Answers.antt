@@ -1,5 +1,4 @@
 use Rattle.commands.proofs.FedLines.{taken_length, ends_none, ends_line}
-use borrow.Author.Rules.{rules}
 use Rattle.commands.proofs.feeding.finish.Goals as goal
 
 pub returns-then-m-eq0 : goal.returns-then-m-eq0

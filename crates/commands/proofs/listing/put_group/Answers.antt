@@ -1,6 +1,5 @@
 use native.Mathlib.Omega.{arith}
 use Rattle.commands.proofs.PartLines.{group_none, group_sent}
-use borrow.Author.Rules.{rules}
 use mathlib.Core.Bool.{not}
 use mathlib.Core.Path.{ap}
 use Rattle.commands.proofs.listing.put_group.Goals as goal

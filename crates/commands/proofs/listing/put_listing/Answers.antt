@@ -1,9 +1,6 @@
-use Prim.Native.Nat.{◌-◌}
-use mathlib.Core.Path.{◌≡◌, refl}
+use mathlib.Core.Path.{refl}
 use native.Mathlib.Omega.{arith}
-use lib.ListN.{length}
 use Rattle.store.specs.Layout.{slot_count}
-use Rattle.commands.specs.Listings.{GroupsSent}
 use Rattle.commands.proofs.ListedParts.{groups_begin, groups_more, groups_end}
 use borrow.Author.Rules.{rules}
 use Rattle.commands.proofs.listing.put_listing.Goals as goal
@@ -23,12 +20,15 @@ put_group-at-requires c =
     let few = c.item_count-n.ensures.low in
     let inv = c.loop-row.invariant.1 in
     let l = c.loop-row-test.true in
-    let end = c.own_end-end.ensures in record { shape = shape; from_lt_to = (
+    let end = c.own_end-end.ensures in record {
+      shape = shape;
+      from_lt_to = (
         omega (arith, end.low),
         end.high slot_count (omega (arith, l, few, shape.few)) (omega (arith, few, shape.few)),
         omega
             (arith, inv.few, inv.within, few, shape.few),
-      ) }
+      );
+    }
 
 pub loop-row-smaller : goal.loop-row-smaller
 loop-row-smaller c = omega (arith, c.own_end-end.ensures.low, c.loop-row-test.true)

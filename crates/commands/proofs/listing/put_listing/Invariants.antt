@@ -1,11 +1,7 @@
 use Prim.Native.Nat.{◌-◌}
-use mathlib.Core.Path.{◌≡◌, refl}
-use native.Mathlib.Omega.{arith}
+use mathlib.Core.Path.{◌≡◌}
 use lib.ListN.{length}
-use Rattle.store.specs.Layout.{slot_count}
 use Rattle.commands.specs.Listings.{GroupsSent}
-use Rattle.commands.proofs.ListedParts.{groups_begin, groups_more, groups_end}
-use borrow.Author.Rules.{rules}
 use Rattle.commands.proofs.listing.put_listing.Given as goal
 
 abbrev pub invariant-loop-row : goal.invariant-loop-row

@@ -1,6 +1,5 @@
 use native.Mathlib.Omega.{arith}
 use Rattle.commands.proofs.PartLines.{part_sent}
-use borrow.Author.Rules.{rules}
 use Rattle.commands.proofs.listing.put_part.Goals as goal
 
 pub type_of-kind-requires : goal.type_of-kind-requires

@@ -1,5 +1,4 @@
 use Rattle.commands.proofs.PartLines.{field_short, field_long}
-use borrow.Author.Rules.{rules}
 use Rattle.commands.proofs.listing.short_field.Goals as goal
 
 pub returns-then-most-s : goal.returns-then-most-s

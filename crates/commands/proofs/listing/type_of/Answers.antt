@@ -1,6 +1,5 @@
 use mathlib.Core.Path.{refl}
 use Rattle.commands.proofs.PartLines.{type_found, type_missing}
-use borrow.Author.Rules.{rules}
 use Rattle.commands.proofs.listing.type_of.Goals as goal
 
 pub fold_into-requires : goal.fold_into-requires

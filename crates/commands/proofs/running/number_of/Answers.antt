@@ -1,5 +1,4 @@
 use Rattle.commands.proofs.LineRuns.{refused_number}
-use borrow.Author.Rules.{rules}
 use Rattle.commands.proofs.running.number_of.Goals as goal
 
 pub returns-in-Done : goal.returns-in-Done

@@ -1,6 +1,5 @@
 use Rattle.base.proofs.Lists.{take_rest}
 use Rattle.commands.proofs.LineRuns.{change_run}
-use borrow.Author.Rules.{rules}
 use Rattle.commands.proofs.running.run_drop.Goals as goal
 
 pub returns : goal.returns

@@ -1,5 +1,4 @@
 use Rattle.commands.proofs.LineRuns.{parsed_as, line_does, line_lists, line_unreadable}
-use borrow.Author.Rules.{rules}
 use Rattle.commands.proofs.running.run_line.Goals as goal
 
 pub run_put-requires : goal.run_put-requires

@@ -1,6 +1,5 @@
 use Rattle.contract.proofs.Opening.{let_in}
 use Rattle.commands.proofs.LineRuns.{listing_foreign}
-use borrow.Author.Rules.{rules}
 use Rattle.commands.proofs.running.run_list.Goals as goal
 
 pub returns-then-k-ne0 : goal.returns-then-k-ne0

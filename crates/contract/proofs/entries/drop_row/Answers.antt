@@ -1,7 +1,6 @@
 use mathlib.Core.Path.{refl}
 use Rattle.contract.proofs.SoughtKeys.{aimed_whole, placed_whole}
 use Rattle.contract.proofs.RowEntries.{drop_done, drop_missing}
-use borrow.Author.Rules.{rules}
 use Rattle.contract.proofs.entries.drop_row.Goals as goal
 
 pub fold_into-requires : goal.fold_into-requires

@@ -1,5 +1,4 @@
 use Rattle.contract.proofs.RowEntries.{roomy_many, roomy_slots, roomy_bytes}
-use borrow.Author.Rules.{rules}
 use Rattle.contract.proofs.entries.has_row_room.Goals as goal
 
 pub returns-then-is_full : goal.returns-then-is_full

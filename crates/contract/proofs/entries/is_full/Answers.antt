@@ -1,6 +1,5 @@
 use mathlib.Core.Path.{refl}
 use Rattle.contract.proofs.RowEntries.{full_few, full_counted}
-use borrow.Author.Rules.{rules}
 use Rattle.contract.proofs.entries.is_full.Goals as goal
 
 pub returns-then-count-limit : goal.returns-then-count-limit

@@ -1,7 +1,6 @@
 use mathlib.Core.Path.{refl}
 use Rattle.contract.proofs.SoughtKeys.{aimed_whole, placed_whole}
 use Rattle.contract.proofs.RowEntries.{taken_placed}
-use borrow.Author.Rules.{rules}
 use Rattle.contract.proofs.entries.is_held.Goals as goal
 
 pub seek-place-requires : goal.seek-place-requires

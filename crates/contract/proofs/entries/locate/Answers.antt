@@ -1,5 +1,4 @@
 use Rattle.contract.proofs.RowEntries.{sought_here, sought_none}
-use borrow.Author.Rules.{rules}
 use Rattle.contract.proofs.entries.locate.Goals as goal
 
 pub returns-then-place : goal.returns-then-place

@@ -1,5 +1,4 @@
 use Rattle.contract.proofs.RowEntries.{taken_placed, entered_refused, entered_room, entered_made}
-use borrow.Author.Rules.{rules}
 use Rattle.contract.proofs.entries.put_at.Goals as goal
 
 pub row_refusal-k-requires : goal.row_refusal-k-requires
@@ -13,9 +12,13 @@ returns-then-k-ne0 c =
 
 pub insert-requires : goal.insert-requires
 insert-requires c =
-    record { shape = c.requires.shape.0; room = entered_room _ c.args.own c.args.limit c.args.t c.args.f0.now
-            c.args.f1.now c.args.f2.now c.args.f3.now _ c.row_refusal-k.ensures c.if-k-ne0.false
-            _ _ c.requires.shape.1 c.requires.placed.bounded; f0_nonzero = c.requires.f0_nonzero }
+    record {
+      shape = c.requires.shape.0;
+      room = entered_room _ c.args.own c.args.limit c.args.t c.args.f0.now
+          c.args.f1.now c.args.f2.now c.args.f3.now _ c.row_refusal-k.ensures c.if-k-ne0.false
+          _ _ c.requires.shape.1 c.requires.placed.bounded;
+      f0_nonzero = c.requires.f0_nonzero;
+    }
 
 pub returns : goal.returns
 returns c =

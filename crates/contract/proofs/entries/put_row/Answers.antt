@@ -1,6 +1,5 @@
 use mathlib.Core.Path.{refl}
 use Rattle.contract.proofs.SoughtKeys.{aimed_whole, placed_whole}
-use borrow.Author.Rules.{rules}
 use Rattle.contract.proofs.entries.put_row.Goals as goal
 
 pub fold_into-requires : goal.fold_into-requires

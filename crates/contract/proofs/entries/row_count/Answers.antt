@@ -2,7 +2,6 @@ use native.Mathlib.Numerals.{add-one}
 use mathlib.Core.Path.{refl}
 use native.Mathlib.Omega.{arith}
 use Rattle.contract.proofs.RowEntries.{counted}
-use borrow.Author.Rules.{rules}
 use Rattle.contract.proofs.entries.row_count.Goals as goal
 
 pub returns-then-to-from : goal.returns-then-to-from

@@ -1,5 +1,4 @@
 use Rattle.contract.proofs.Opening.{passes, fails}
-use borrow.Author.Rules.{rules}
 use Rattle.contract.proofs.gate.opened.Goals as goal
 
 pub returns-then-is_package : goal.returns-then-is_package

@@ -1,7 +1,6 @@
 use borrow.Author.Tests.{ne_eqb}
 use Rattle.chars.specs.Folding.{order}
 use Rattle.contract.specs.Rows.{second}
-use borrow.Author.Rules.{rules}
 use Rattle.contract.proofs.search.compare_second.Goals as goal
 
 pub returns-then-set-eq-ITEMS : goal.returns-then-set-eq-ITEMS

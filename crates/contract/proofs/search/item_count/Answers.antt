@@ -1,6 +1,5 @@
 use mathlib.Core.List.{[]}
 use Rattle.contract.proofs.ItemRows.{item_count}
-use borrow.Author.Rules.{rules}
 use Rattle.contract.proofs.search.item_count.Goals as goal
 
 pub returns : goal.returns

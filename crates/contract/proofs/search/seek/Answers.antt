@@ -1,7 +1,4 @@
-use Prim.Native.Nat.{◌-◌}
 use native.Mathlib.Omega.{arith}
-use borrow.Author.Rules.{rules}
-use Rattle.contract.specs.Searches.{sought_key, Closing}
 use Rattle.contract.proofs.RowSearch.{closing_all, closing_right, closing_left, placed_hit, placed_end}
 use Rattle.contract.proofs.search.seek.Goals as goal
 

@@ -1,8 +1,5 @@
 use Prim.Native.Nat.{◌-◌}
-use native.Mathlib.Omega.{arith}
-use borrow.Author.Rules.{rules}
 use Rattle.contract.specs.Searches.{sought_key, Closing}
-use Rattle.contract.proofs.RowSearch.{closing_all, closing_right, closing_left, placed_hit, placed_end}
 use Rattle.contract.proofs.search.seek.Given as goal
 
 abbrev pub invariant-loop-lo : goal.invariant-loop-lo

@@ -1,6 +1,5 @@
 use mathlib.Core.Path.{◌≡◌, sym, subst}
 use native.Mathlib.Omega.{arith}
-use borrow.Author.Rules.{rules}
 use Rattle.chars.specs.Folding.{fold}
 use Rattle.model.specs.Sets.{Bytes}
 use Rattle.store.proofs.Reading.{head_field}

@@ -1,6 +1,5 @@
 use mathlib.Core.Path.{refl}
 use native.Mathlib.Omega.{arith}
-use borrow.Author.Rules.{rules}
 use Rattle.contract.proofs.Opening.{let_in}
 use Rattle.entries.proofs.SetNumbers.{few_sets}
 use Rattle.entries.proofs.EntryCalls.{entry_turned, entry_no_field, entry_missing, entry_copied}

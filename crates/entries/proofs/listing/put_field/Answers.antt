@@ -1,6 +1,5 @@
 use mathlib.Core.Path.{refl, sym}
 use lib.ListN.{length-append}
-use borrow.Author.Rules.{rules}
 use Rattle.output.specs.Answers.{Text}
 use Rattle.output.proofs.Answering.{answer_short, answer_bytes}
 use Rattle.output.proofs.Sending.{sent_both}

@@ -1,4 +1,3 @@
-use borrow.Author.Rules.{rules}
 use borrow.Author.Tests.{eq-eqb, ne_eqb}
 use Rattle.contract.specs.Rows.{external_tag}
 use Rattle.base.proofs.Bools.{eqb_both, eqb_not_both}

@@ -1,11 +1,10 @@
 use Prim.Native.Nat.{◌-◌, ◌≤◌, ◌+◌}
-use mathlib.Core.Path.{◌≡◌, refl, ◌∙◌, sym}
+use mathlib.Core.Path.{refl, ◌∙◌, sym}
 use native.Mathlib.Omega.{arith}
-use lib.ListN.{length, drop, take, length-set}
+use lib.ListN.{length, drop, length-set}
 use lib.Seq.{length-take-le}
 use borrow.Author.Rules.{rules}
-use Rattle.iri.specs.References.{remove_dot_segments}
-use Rattle.iri.proofs.DotTurns.{whole, whole_all, fits_skip, after_skip, root_done, done, after_root, fits_up, chop_le, after_up, after_up_root, after_finish, fits_copy, after_copy, whole_none}
+use Rattle.iri.proofs.DotTurns.{whole_all, fits_skip, after_skip, root_done, done, after_root, fits_up, chop_le, after_up, after_up_root, after_finish, fits_copy, after_copy, whole_none}
 use Rattle.base.proofs.Lists.{length_part_le, length_take_few}
 use Rattle.iri.proofs.dots.remove_dots.Goals as goal
 
@@ -112,12 +111,11 @@ slice_bounds-emit-end c =
     search rules
 
 pub emit-o-requires : goal.emit-o-requires
-emit-o-requires c =
-    (
-      omega arith,
-      (let l = length_part_le (c.loop-i.i + c.in-Copy.n - c.loop-i.i) c.loop-i.i
-          c.args.s.now in omega arith),
-    )
+emit-o-requires c = (
+  omega arith,
+  (let l = length_part_le (c.loop-i.i + c.in-Copy.n - c.loop-i.i) c.loop-i.i
+      c.args.s.now in omega arith),
+)
 
 pub loop-i-smaller : goal.loop-i-smaller
 loop-i-smaller c =

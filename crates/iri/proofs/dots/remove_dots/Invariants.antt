@@ -1,12 +1,8 @@
-use Prim.Native.Nat.{◌-◌, ◌≤◌, ◌+◌}
-use mathlib.Core.Path.{◌≡◌, refl, ◌∙◌, sym}
-use native.Mathlib.Omega.{arith}
-use lib.ListN.{length, drop, take, length-set}
-use lib.Seq.{length-take-le}
-use borrow.Author.Rules.{rules}
+use Prim.Native.Nat.{◌-◌, ◌≤◌}
+use mathlib.Core.Path.{◌≡◌}
+use lib.ListN.{length, drop, take}
 use Rattle.iri.specs.References.{remove_dot_segments}
-use Rattle.iri.proofs.DotTurns.{whole, whole_all, fits_skip, after_skip, root_done, done, after_root, fits_up, chop_le, after_up, after_up_root, after_finish, fits_copy, after_copy, whole_none}
-use Rattle.base.proofs.Lists.{length_part_le, length_take_few}
+use Rattle.iri.proofs.DotTurns.{whole}
 use Rattle.iri.proofs.dots.remove_dots.Given as goal
 
 abbrev pub invariant-loop-i : goal.invariant-loop-i

@@ -1,4 +1,3 @@
-use borrow.Author.Rules.{rules}
 use Rattle.iri.proofs.DotRules.{rule_1, rule_2, rule_3, rule_4, rule_5, rule_6}
 use Rattle.iri.proofs.dots.rule.Goals as goal
 

@@ -1,4 +1,3 @@
-use borrow.Author.Rules.{rules}
 use Rattle.iri.proofs.DotRules.{end_1, end_2, end_3}
 use Rattle.iri.proofs.dots.rule_end.Goals as goal
 

@@ -1,5 +1,4 @@
 use native.Mathlib.Omega.{arith}
-use borrow.Author.Rules.{rules}
 use Rattle.chars.specs.Bytes.{slash}
 use Rattle.base.proofs.Lists.{length_take_le_length}
 use Rattle.iri.proofs.Merging.{merge_absolute, merge_empty, last_length, merge_folder}
@@ -23,11 +22,10 @@ pub emit-a-requires-2 : goal.emit-a-requires-2
 emit-a-requires-2 c = (omega arith, omega (arith, length_take_le_length c.find_past-q.result c.args.base.now))
 
 pub emit-requires-2 : goal.emit-requires-2
-emit-requires-2 c =
-    (
-      omega (arith, c.emit-a-2.ensures.next_is, length_take_le_length c.find_past-q.result c.args.base.now),
-      omega arith,
-    )
+emit-requires-2 c = (
+  omega (arith, c.emit-a-2.ensures.next_is, length_take_le_length c.find_past-q.result c.args.base.now),
+  omega arith,
+)
 
 pub returns : goal.returns
 returns c =

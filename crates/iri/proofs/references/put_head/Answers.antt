@@ -1,7 +1,6 @@
 use mathlib.Core.Path.{sym}
 use native.Mathlib.Omega.{arith}
 use lib.Seq.{length-take-le}
-use borrow.Author.Rules.{rules}
 use Rattle.base.proofs.Lists.{length_take_le_length}
 use Rattle.output.proofs.Sending.{sent_as, sent_more}
 use Rattle.iri.proofs.Transforms.{reference_authority_le, head_own, base_scheme_le, head_authority, base_authority_le, head_base}
@@ -34,17 +33,16 @@ slice_bounds-emit-end-then-ra-ne0-2 c =
     c.requires))
 
 pub emit-requires-then-ra-ne0 : goal.emit-requires-then-ra-ne0
-emit-requires-then-ra-ne0 c =
-    (
-      omega (
-        arith,
-        c.emit-at.ensures.next_is,
-        length_take_le_length c.args.b.scheme c.args.base.now,
-        c.requires.base_few,
-      ),
-      omega
-          (arith, length_take_le_length c.args.x.authority c.args.r.now, c.requires.reference_few),
-    )
+emit-requires-then-ra-ne0 c = (
+  omega (
+    arith,
+    c.emit-at.ensures.next_is,
+    length_take_le_length c.args.b.scheme c.args.base.now,
+    c.requires.base_few,
+  ),
+  omega
+      (arith, length_take_le_length c.args.x.authority c.args.r.now, c.requires.reference_few),
+)
 
 pub returns-then-ra-ne0 : goal.returns-then-ra-ne0
 returns-then-ra-ne0 c =

@@ -4,7 +4,6 @@ use lib.Seq.{length-take-le}
 use Rattle.iri.specs.References.{resolve}
 use Rattle.base.proofs.Lists.{length_take_few}
 use Rattle.output.proofs.Sending.{fitted_none, fitted_sent}
-use borrow.Author.Rules.{rules}
 use Rattle.iri.proofs.references.put_reference.Goals as goal
 
 pub slice_bounds-put_target-end : goal.slice_bounds-put_target-end

@@ -1,5 +1,4 @@
 use mathlib.Core.Path.{◌∙◌, sym}
-use borrow.Author.Rules.{rules}
 use Rattle.base.proofs.Lists.{take_rest}
 use Rattle.output.proofs.Sending.{sent_as, sent_more}
 use Rattle.iri.proofs.Transforms.{tail_base, tail_own}

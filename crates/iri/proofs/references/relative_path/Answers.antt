@@ -2,7 +2,6 @@ use mathlib.Core.Path.{sym, ◌≡◌}
 use native.Mathlib.Omega.{arith}
 use lib.ListN.{length, take}
 use lib.Seq.{length-take-le}
-use borrow.Author.Rules.{rules}
 use Rattle.iri.proofs.Merging.{merged_end_few, reached}
 use Rattle.iri.proofs.references.relative_path.Goals as goal
 

@@ -3,7 +3,6 @@ use Rattle.output.proofs.Answering.{answer_refused, fitted_short, fitted_bytes}
 use Rattle.iri.proofs.Transforms.{reference_base, reference_no, reference_text, judged_few}
 use mathlib.Core.List.{[]}
 use native.Mathlib.Omega.{arith}
-use borrow.Author.Rules.{rules}
 use mathlib.Core.Bool.{not}
 use mathlib.Core.Path.{ap}
 use Rattle.iri.proofs.references.resolve_reference.Goals as goal

@@ -2,7 +2,6 @@ use Prim.Native.Nat.{◌-◌}
 use mathlib.Core.Path.{sym}
 use native.Mathlib.Omega.{arith}
 use lib.Seq.{length-take-le}
-use borrow.Author.Rules.{rules}
 use Rattle.base.proofs.Lists.{length_part_le, length_take_le_length}
 use Rattle.iri.proofs.Transforms.{went_own, went_base, reference_path_le, went_merged}
 use Rattle.iri.proofs.references.target_path.Goals as goal
@@ -23,18 +22,17 @@ slice_bounds-relative_path-end-2 c =
     c.requires.0))
 
 pub relative_path-requires : goal.relative_path-requires
-relative_path-requires c =
-    (
-      omega (
-        arith,
-        length_part_le (c.args.b.path - c.args.b.authority) c.args.b.authority
-            c.args.base.now,
-        c.requires.0.base_few,
-      ),
-      omega
-          (arith, length_take_le_length c.args.x.path c.args.r.now, c.requires.0.reference_few),
-      c.requires.1,
-    )
+relative_path-requires c = (
+  omega (
+    arith,
+    length_part_le (c.args.b.path - c.args.b.authority) c.args.b.authority
+        c.args.base.now,
+    c.requires.0.base_few,
+  ),
+  omega
+      (arith, length_take_le_length c.args.x.path c.args.r.now, c.requires.0.reference_few),
+  c.requires.1,
+)
 
 pub returns : goal.returns
 returns c =

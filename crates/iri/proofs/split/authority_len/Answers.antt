@@ -2,7 +2,6 @@ use Prim.Native.Nat.{◌≤◌, ◌+◌}
 use mathlib.Core.Path.{◌≡◌}
 use native.Mathlib.Omega.{arith}
 use lib.ListN.{length}
-use borrow.Author.Rules.{rules}
 use Rattle.iri.specs.Components.{authority_length}
 use Rattle.iri.proofs.Splitting.{authority_start, authority_yes, authority_le, authority_half, authority_no}
 use Rattle.iri.proofs.split.authority_len.Goals as goal

@@ -2,7 +2,6 @@ use Prim.Native.Nat.{◌<◌}
 use mathlib.Core.Path.{refl}
 use native.Mathlib.Omega.{arith}
 use lib.ListN.{length}
-use borrow.Author.Rules.{rules}
 use Rattle.chars.specs.Bytes.{colon}
 use Rattle.iri.proofs.Splitting.{byte_lt, scheme_yes, scheme_zero, scheme_no}
 use Rattle.iri.proofs.split.scheme_len.Goals as goal

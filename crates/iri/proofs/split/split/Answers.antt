@@ -1,5 +1,4 @@
 use native.Mathlib.Omega.{arith}
-use borrow.Author.Rules.{rules}
 use Rattle.iri.proofs.Splitting.{split_a, split_b, split_p, split_is}
 use Rattle.iri.proofs.split.split.Goals as goal
 

@@ -3,7 +3,6 @@ use Rattle.model.specs.Calls.{Changes, DropItem}
 use native.Mathlib.Omega.{arith}
 use Rattle.items.proofs.Changing.{named_is, named_few, drop_refused, drop_missing, drop_done}
 use Rattle.contract.proofs.Opening.{turned_away_lem, let_in}
-use borrow.Author.Rules.{rules}
 use Rattle.items.proofs.calls.drop_item.Goals as goal
 
 pub returns-then-k-ne0 : goal.returns-then-k-ne0
@@ -16,8 +15,11 @@ item_row-r-requires c =
 
 pub remove-requires : goal.remove-requires
 remove-requires c =
-    record { shape = (let_in _ _ c.opened-k.ensures c.if-k-ne0.false).shape; r_bound = omega
-          (arith, c.if-r-count.true, c.count.ensures.0) }
+    record {
+      shape = (let_in _ _ c.opened-k.ensures c.if-k-ne0.false).shape;
+      r_bound = omega
+          (arith, c.if-r-count.true, c.count.ensures.0);
+    }
 
 pub returns-then-r-count : goal.returns-then-r-count
 returns-then-r-count c =

@@ -2,7 +2,6 @@ use mathlib.Core.Path.{refl}
 use Rattle.model.specs.Calls.{Looks, Find}
 use Rattle.items.proofs.Looking.{asked_is, find_refused, find_missing, find_found}
 use Rattle.contract.proofs.Opening.{turned_away_lem, let_in}
-use borrow.Author.Rules.{rules}
 use Rattle.items.proofs.calls.find_item.Goals as goal
 
 pub returns-then-k-ne0 : goal.returns-then-k-ne0

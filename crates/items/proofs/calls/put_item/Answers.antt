@@ -7,7 +7,6 @@ use Rattle.contract.proofs.Opening.{turned_away_lem, let_in}
 use Rattle.contract.proofs.SoughtKeys.{aimed_whole, placed_whole}
 use Rattle.items.proofs.Naming.{prefix_slice, prefix_in_lem}
 use Rattle.items.proofs.Changing.{named_is, named_few, named_some, named_tag, named_set, put_refused, put_ran}
-use borrow.Author.Rules.{rules}
 use Rattle.items.proofs.calls.put_item.Goals as goal
 
 pub returns-then-k-ne0 : goal.returns-then-k-ne0
@@ -23,8 +22,11 @@ fold_into-requires c =
 
 pub seek-place-requires : goal.seek-place-requires
 seek-place-requires c =
-    record { shape = (let_in _ _ c.opened-k.ensures c.if-k-ne0.false).shape; aimed = aimed_whole _ _ c.fold_into.ensures _ _ _
-          (prefix_slice _ _ (named_is _ _ c.strict.ensures _ _ c.in-Named.is).0) }
+    record {
+      shape = (let_in _ _ c.opened-k.ensures c.if-k-ne0.false).shape;
+      aimed = aimed_whole _ _ c.fold_into.ensures _ _ _
+          (prefix_slice _ _ (named_is _ _ c.strict.ensures _ _ c.in-Named.is).0);
+    }
 
 pub item_count-requires : goal.item_count-requires
 item_count-requires c = (let_in _ _ c.opened-k.ensures c.if-k-ne0.false).shape
@@ -44,13 +46,18 @@ slice_bounds-put_at-start c = prefix_in_lem _ _ (named_is _ _ c.strict.ensures _
 pub put_at-requires : goal.put_at-requires
 unfolding second
 put_at-requires c =
-    let named = named_is _ _ c.strict.ensures _ _ c.in-Named.is in record { shape = (
+    let named = named_is _ _ c.strict.ensures _ _ c.in-Named.is in record {
+      shape = (
         (let_in _ _ c.opened-k.ensures c.if-k-ne0.false).shape,
         named_set _ _ c.strict.ensures _ _ c.in-Named.is,
-      ); placed = placed_whole _ _ _ c.fold_into.ensures 0 _ [] _ (prefix_slice _ _ named.0) _ _ c.seek-place.ensures; numbered = c.misfit_of-own.ensures.numbered; f0_nonzero = (
-            named_some _ _ c.strict.ensures _ _ c.in-Named.is,
-            named_tag _ _ c.strict.ensures _ _ c.in-Named.is,
-          ) }
+      );
+      placed = placed_whole _ _ _ c.fold_into.ensures 0 _ [] _ (prefix_slice _ _ named.0) _ _ c.seek-place.ensures;
+      numbered = c.misfit_of-own.ensures.numbered;
+      f0_nonzero = (
+        named_some _ _ c.strict.ensures _ _ c.in-Named.is,
+        named_tag _ _ c.strict.ensures _ _ c.in-Named.is,
+      );
+    }
 
 pub returns-in-Refused : goal.returns-in-Refused
 returns-in-Refused c =

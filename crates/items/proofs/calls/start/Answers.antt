@@ -1,5 +1,4 @@
 use Rattle.items.proofs.Starting.{start_big, start_short, start_done}
-use borrow.Author.Rules.{rules}
 use Rattle.items.proofs.calls.start.Goals as goal
 
 pub returns-then-capacity-gt-CAPACITY_LIMIT : goal.returns-then-capacity-gt-CAPACITY_LIMIT

@@ -2,7 +2,6 @@ use mathlib.Core.Path.{refl}
 use Rattle.model.specs.Calls.{Looks, View}
 use Rattle.items.proofs.Looking.{asked_is, view_refused, view_missing, view_found}
 use Rattle.contract.proofs.Opening.{turned_away_lem, let_in}
-use borrow.Author.Rules.{rules}
 use Rattle.items.proofs.calls.view_item.Goals as goal
 
 pub returns-then-k-ne0 : goal.returns-then-k-ne0

@@ -1,9 +1,6 @@
-use Prim.Native.Nat.{◌-◌}
 use native.Mathlib.Omega.{arith}
 use Rattle.chars.proofs.FoldedNames.{text_is, text_folded}
-use Rattle.items.specs.Clashes.{GrownFrom}
 use Rattle.items.proofs.GrowingRows.{grown_all, grown_next, grown_yes, grown_none}
-use borrow.Author.Rules.{rules}
 use Rattle.items.proofs.clashes.has_grown.Goals as goal
 
 pub loop-i-init : goal.loop-i-init

@@ -1,6 +1,5 @@
 use Rattle.chars.proofs.FoldedNames.{text_is, text_folded}
 use Rattle.items.proofs.Tests.{extended_past, extended_here}
-use borrow.Author.Rules.{rules}
 use Rattle.items.proofs.clashes.is_extended.Goals as goal
 
 pub returns-then-m-i : goal.returns-then-m-i

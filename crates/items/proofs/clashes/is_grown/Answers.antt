@@ -1,6 +1,4 @@
-use native.Mathlib.Omega.{arith}
 use Rattle.items.proofs.Tests.{grown_from, grown_into, grown_no_slash, grown_no_rest, grown_into_no_slash}
-use borrow.Author.Rules.{rules}
 use Rattle.items.proofs.clashes.is_grown.Goals as goal
 
 pub returns-then-byte_at-eq47 : goal.returns-then-byte_at-eq47

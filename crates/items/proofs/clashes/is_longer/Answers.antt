@@ -1,5 +1,4 @@
 use Rattle.items.proofs.Tests.{extends_long, extends_short}
-use borrow.Author.Rules.{rules}
 use Rattle.items.proofs.clashes.is_longer.Goals as goal
 
 pub returns-then-n-q : goal.returns-then-n-q

@@ -1,6 +1,5 @@
 use Rattle.chars.proofs.FoldedNames.{text_is, text_folded}
 use Rattle.items.proofs.Tests.{opposed_past, opposed_agree, opposed_here}
-use borrow.Author.Rules.{rules}
 use mathlib.Core.Bool.{not}
 use mathlib.Core.Path.{ap}
 use Rattle.items.proofs.clashes.is_opposed.Goals as goal

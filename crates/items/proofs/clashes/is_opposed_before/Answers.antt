@@ -1,5 +1,4 @@
 use Rattle.items.proofs.Tests.{before_none, before_some}
-use borrow.Author.Rules.{rules}
 use Rattle.items.proofs.clashes.is_opposed_before.Goals as goal
 
 pub returns-then-r-eq0 : goal.returns-then-r-eq0

@@ -1,6 +1,5 @@
 use Rattle.chars.proofs.FoldedNames.{text_is, text_folded}
 use Rattle.items.proofs.Tests.{parted_none, parted_some}
-use borrow.Author.Rules.{rules}
 use Rattle.items.proofs.clashes.is_parted.Goals as goal
 
 pub returns-then-r-eq0 : goal.returns-then-r-eq0

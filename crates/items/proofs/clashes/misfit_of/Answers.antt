@@ -1,6 +1,5 @@
 use Rattle.items.proofs.Naming.{prefix_slice}
 use Rattle.items.proofs.Clashing.{misfit_12, misfit_12_before, misfit_11, misfit_0, misfit_apart}
-use borrow.Author.Rules.{rules}
 use Rattle.items.proofs.clashes.misfit_of.Goals as goal
 
 pub slice_bounds-is_opposed-end : goal.slice_bounds-is_opposed-end

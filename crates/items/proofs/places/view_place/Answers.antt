@@ -3,7 +3,6 @@ use Rattle.model.specs.Calls.{Looks, View}
 use Rattle.items.proofs.Looking.{asked_is, view_refused, view_missing, view_found}
 use Rattle.items.proofs.Spanning.{viewed_none}
 use Rattle.contract.proofs.Opening.{turned_away_lem, let_in}
-use borrow.Author.Rules.{rules}
 use Rattle.items.proofs.places.view_place.Goals as goal
 
 pub returns-then-k-ne0 : goal.returns-then-k-ne0

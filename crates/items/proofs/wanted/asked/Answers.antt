@@ -1,5 +1,4 @@
 use Rattle.items.proofs.Naming.{asked_refused, asked_named, named_small}
-use borrow.Author.Rules.{rules}
 use Rattle.items.proofs.wanted.asked.Goals as goal
 
 pub returns-in_default : goal.returns-in_default

@@ -1,11 +1,9 @@
-use mathlib.Core.Path.{refl, ap}
+use mathlib.Core.Path.{refl}
 use native.Mathlib.Omega.{arith}
 use borrow.Author.Tests.{not-true, not-false}
 use Rattle.contract.proofs.SoughtKeys.{aimed_whole, placed_whole}
 use Rattle.items.proofs.Naming.{prefix_slice}
 use Rattle.items.proofs.Locating.{located, located_other, located_none}
-use borrow.Author.Rules.{rules}
-use mathlib.Core.Bool.{not}
 use Rattle.items.proofs.wanted.item_row.Goals as goal
 
 pub slice_bounds-fold_into-end-2 : goal.slice_bounds-fold_into-end-2

@@ -1,5 +1,4 @@
 use Rattle.items.proofs.Naming.{strict_refused, strict_reserved, strict_named, named_small, named_slice}
-use borrow.Author.Rules.{rules}
 use Rattle.items.proofs.wanted.strict.Goals as goal
 
 pub returns-in_default : goal.returns-in_default

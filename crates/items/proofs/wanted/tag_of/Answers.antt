@@ -1,6 +1,5 @@
 use native.Mathlib.Omega.{arith}
 use Rattle.items.proofs.Tags.{piece_fits, tag_piece}
-use borrow.Author.Rules.{rules}
 use Rattle.items.proofs.wanted.tag_of.Goals as goal
 
 pub overflow_add-result : goal.overflow_add-result

@@ -1,5 +1,4 @@
 use Rattle.lines.proofs.Together.{gathers_none, gathers_fit, gathers_copied}
-use borrow.Author.Rules.{rules}
 use Rattle.lines.proofs.gathering.gather.Goals as goal
 
 pub returns-then-more-eq0 : goal.returns-then-more-eq0

@@ -1,5 +1,4 @@
 use Rattle.lines.proofs.Commands.{parse_long, parse_first, parse_list, parse_alone, parse_empty, parse_drop, parse_two, parse_put, parse_short, parse_four, parse_typed}
-use borrow.Author.Rules.{rules}
 use Rattle.lines.proofs.parsing.parse.Goals as goal
 
 pub returns-then-n-gt1024 : goal.returns-then-n-gt1024

@@ -1,5 +1,4 @@
 use borrow.Author.Tests.{eq-eqb, ne_eqb}
-use borrow.Author.Rules.{rules}
 use Rattle.lines.proofs.printing.cell.Goals as goal
 
 pub returns-then-v-eq0 : goal.returns-then-v-eq0

@@ -1,5 +1,4 @@
 use Rattle.output.proofs.Sending.{sent_more}
-use borrow.Author.Rules.{rules}
 use Rattle.lines.proofs.printing.put_answer.Goals as goal
 
 pub returns : goal.returns

@@ -1,5 +1,4 @@
 use Rattle.lines.proofs.Sends.{sent_part_line}
-use borrow.Author.Rules.{rules}
 use Rattle.lines.proofs.printing.put_part_line.Goals as goal
 
 pub returns : goal.returns

@@ -1,5 +1,4 @@
 use Rattle.chars.proofs.Searches.{drop_after, drop_after_none}
-use borrow.Author.Rules.{rules}
 use Rattle.names.proofs.iris.after.Goals as goal
 
 pub returns-then-i-n : goal.returns-then-i-n

@@ -1,5 +1,4 @@
 use Rattle.names.specs.Iris.{colon_first}
-use borrow.Author.Rules.{rules}
 use Rattle.names.proofs.iris.has_colon_first.Goals as goal
 
 pub returns : goal.returns

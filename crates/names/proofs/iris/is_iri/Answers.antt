@@ -9,7 +9,6 @@ use Rattle.base.proofs.Bools.{and_false}
 use Rattle.chars.proofs.Searches.{first_le}
 use Rattle.names.specs.Iris.{iri}
 use Rattle.names.proofs.IriParts.{iri_is}
-use borrow.Author.Rules.{rules}
 use Rattle.names.proofs.iris.is_iri.Goals as goal
 
 pub returns-then-n-gt255 : goal.returns-then-n-gt255

@@ -1,5 +1,4 @@
 use Rattle.names.specs.Iris.{package_iri}
-use borrow.Author.Rules.{rules}
 use Rattle.names.proofs.iris.is_package_iri.Goals as goal
 
 pub returns : goal.returns

@@ -1,5 +1,4 @@
 use Rattle.names.specs.Iris.{scheme}
-use borrow.Author.Rules.{rules}
 use Rattle.names.proofs.iris.is_scheme.Goals as goal
 
 pub returns : goal.returns

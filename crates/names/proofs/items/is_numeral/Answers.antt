@@ -1,4 +1,3 @@
-use borrow.Author.Rules.{rules}
 use Rattle.names.proofs.Digits.{numeral_is}
 use Rattle.names.proofs.items.is_numeral.Goals as goal
 

@@ -2,11 +2,9 @@ use mathlib.Core.Bool.{true}
 use mathlib.Core.List.{List}
 use Rattle.chars.specs.Bytes.{digit}
 use mathlib.Core.Path.{◌≡◌, refl, sym, ◌∙◌}
-use Prim.Native.Nat.{ℕ, ◌-◌, ◌≤◌}
+use Prim.Native.Nat.{ℕ}
 use native.Mathlib.Omega.{arith}
-use lib.ListN.{length, get_or, drop}
-use borrow.Author.Rules.{rules}
-use Rattle.names.specs.Reading.{read_number}
+use lib.ListN.{get_or}
 use Rattle.names.proofs.Digits.{digit_low, digit_high, read_more, read_bad, read_big, read_done}
 use Rattle.names.proofs.items.read_number.Goals as goal
 use Rattle.names.proofs.items.read_number.Goals.{Then-is_digit}

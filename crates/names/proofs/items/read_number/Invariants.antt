@@ -1,13 +1,7 @@
-use mathlib.Core.Bool.{true}
-use mathlib.Core.List.{List}
-use Rattle.chars.specs.Bytes.{digit}
-use mathlib.Core.Path.{◌≡◌, refl, sym, ◌∙◌}
-use Prim.Native.Nat.{ℕ, ◌-◌, ◌≤◌}
-use native.Mathlib.Omega.{arith}
-use lib.ListN.{length, get_or, drop}
-use borrow.Author.Rules.{rules}
+use mathlib.Core.Path.{◌≡◌}
+use Prim.Native.Nat.{◌-◌, ◌≤◌}
+use lib.ListN.{length, drop}
 use Rattle.names.specs.Reading.{read_number}
-use Rattle.names.proofs.Digits.{digit_low, digit_high, read_more, read_bad, read_big, read_done}
 use Rattle.names.proofs.items.read_number.Given as goal
 
 abbrev pub invariant-loop-i : goal.invariant-loop-i

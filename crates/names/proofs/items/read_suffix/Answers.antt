@@ -1,6 +1,5 @@
 use mathlib.Core.Path.{sym, ◌∙◌}
 use Rattle.names.proofs.Suffixes.{suffix_le, suffix_none, suffix_is}
-use borrow.Author.Rules.{rules}
 use Rattle.names.proofs.items.read_suffix.Goals as goal
 
 pub returns-then-e-eq0 : goal.returns-then-e-eq0

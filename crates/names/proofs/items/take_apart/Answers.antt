@@ -6,7 +6,6 @@ use Rattle.chars.proofs.Searches.{every_take_take}
 use Rattle.names.specs.PlainBytes.{plain}
 use Rattle.names.proofs.PlainBytes.{plain_bracket}
 use Rattle.names.proofs.Suffixes.{last_segment_le, item_none, item_whole, item_no_suffix, item_piece, item_plain}
-use borrow.Author.Rules.{rules}
 use Rattle.names.proofs.items.take_apart.Goals as goal
 
 pub returns-then-s-plain : goal.returns-then-s-plain

@@ -1,4 +1,3 @@
-use borrow.Author.Rules.{rules}
 use Rattle.names.proofs.items.whole.Goals as goal
 
 pub returns-then-is_name : goal.returns-then-is_name

@@ -1,4 +1,3 @@
-use borrow.Author.Rules.{rules}
 use Rattle.chars.specs.Bytes.{member}
 use Rattle.chars.proofs.FirstBytes.{every_found}
 use Rattle.names.proofs.members.all_members.Goals as goal

@@ -1,11 +1,6 @@
-use mathlib.Core.Path.{◌≡◌, sym, ◌∙◌}
-use Prim.Native.Nat.{◌+◌, ◌-◌}
+use mathlib.Core.Path.{sym, ◌∙◌}
 use native.Mathlib.Nat.{zero-add}
-use native.Mathlib.Omega.{arith}
-use lib.ListN.{length, drop}
-use borrow.Author.Rules.{rules}
 use Rattle.chars.specs.Bytes.{member}
-use Rattle.chars.specs.Lists.{first_passing}
 use Rattle.chars.proofs.Searches.{first_hit, first_miss, first_end_lem}
 use Rattle.names.proofs.members.first_by.Goals as goal
 

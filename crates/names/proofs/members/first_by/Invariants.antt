@@ -1,12 +1,8 @@
-use mathlib.Core.Path.{◌≡◌, sym, ◌∙◌}
+use mathlib.Core.Path.{◌≡◌}
 use Prim.Native.Nat.{◌+◌, ◌-◌}
-use native.Mathlib.Nat.{zero-add}
-use native.Mathlib.Omega.{arith}
 use lib.ListN.{length, drop}
-use borrow.Author.Rules.{rules}
 use Rattle.chars.specs.Bytes.{member}
 use Rattle.chars.specs.Lists.{first_passing}
-use Rattle.chars.proofs.Searches.{first_hit, first_miss, first_end_lem}
 use Rattle.names.proofs.members.first_by.Given as goal
 
 abbrev pub invariant-loop-i : goal.invariant-loop-i

@@ -1,4 +1,3 @@
-use borrow.Author.Rules.{rules}
 use Rattle.names.proofs.members.is_member.Goals as goal
 
 pub returns-in-Token : goal.returns-in-Token

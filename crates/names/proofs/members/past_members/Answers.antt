@@ -1,11 +1,7 @@
-use mathlib.Core.Path.{◌≡◌, refl, sym, ap, ◌∙◌}
+use mathlib.Core.Path.{sym, ap, ◌∙◌}
 use mathlib.Core.Bool.{not}
-use Prim.Native.Nat.{ℕ, ◌+◌, ◌-◌}
-use native.Mathlib.Omega.{arith}
-use lib.ListN.{length, drop}
-use borrow.Author.Rules.{rules}
+use Prim.Native.Nat.{ℕ}
 use Rattle.chars.specs.Bytes.{member}
-use Rattle.chars.specs.Lists.{first_not}
 use Rattle.chars.proofs.Searches.{first_hit, first_miss, first_end_lem}
 use Rattle.names.proofs.members.past_members.Goals as goal
 

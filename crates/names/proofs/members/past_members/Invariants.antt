@@ -1,12 +1,8 @@
-use mathlib.Core.Path.{◌≡◌, refl, sym, ap, ◌∙◌}
-use mathlib.Core.Bool.{not}
-use Prim.Native.Nat.{ℕ, ◌+◌, ◌-◌}
-use native.Mathlib.Omega.{arith}
+use mathlib.Core.Path.{◌≡◌}
+use Prim.Native.Nat.{◌+◌, ◌-◌}
 use lib.ListN.{length, drop}
-use borrow.Author.Rules.{rules}
 use Rattle.chars.specs.Bytes.{member}
 use Rattle.chars.specs.Lists.{first_not}
-use Rattle.chars.proofs.Searches.{first_hit, first_miss, first_end_lem}
 use Rattle.names.proofs.members.past_members.Given as goal
 
 abbrev pub invariant-loop-i : goal.invariant-loop-i

@@ -1,15 +1,9 @@
-use mathlib.Core.Path.{◌≡◌, refl, sym, ◌∙◌}
-use mathlib.Core.List.{List}
-use Prim.Native.Nat.{ℕ, ◌-◌, ◌≤◌, ◌<◌}
-use native.Mathlib.Nat.{le_of_lt}
-use native.Mathlib.Omega.{arith}
-use lib.ListN.{length, drop, drop_of_length-le}
-use borrow.Author.Rules.{rules}
+use mathlib.Core.Path.{◌≡◌}
+use Prim.Native.Nat.{◌-◌, ◌≤◌}
+use lib.ListN.{length, drop}
 use Rattle.chars.specs.Bytes.{slash}
-use Rattle.chars.specs.Lists.{split, all, last_byte}
+use Rattle.chars.specs.Lists.{split, all}
 use Rattle.names.specs.Names.{segment}
-use Rattle.chars.proofs.Splits.{stretch_le, all_last, all_more, all_not}
-use Rattle.names.proofs.PlainBytes.{known_stretch}
 use Rattle.names.proofs.parts.all_segments.Given as goal
 
 abbrev pub invariant-loop-from : goal.invariant-loop-from

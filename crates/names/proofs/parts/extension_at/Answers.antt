@@ -9,7 +9,6 @@ use Rattle.chars.specs.Lists.{after_last}
 use Rattle.names.specs.Names.{extension_at}
 use Rattle.base.proofs.Lists.{take_rest}
 use Rattle.chars.proofs.Searches.{last_le}
-use borrow.Author.Rules.{rules}
 use Rattle.names.proofs.parts.extension_at.Goals as goal
 use Rattle.names.proofs.parts.extension_at.Goals.{After-find_past-i}
 

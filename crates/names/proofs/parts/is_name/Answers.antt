@@ -1,7 +1,6 @@
 use borrow.Author.Tests.{le-leb, lt-leb, lt-ltb, ne_eqb}
 use Rattle.base.proofs.Bools.{and_false}
 use Rattle.names.specs.Names.{part_name}
-use borrow.Author.Rules.{rules}
 use Rattle.names.proofs.parts.is_name.Goals as goal
 
 pub returns-then-n-lt2 : goal.returns-then-n-lt2

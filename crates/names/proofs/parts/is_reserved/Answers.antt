@@ -5,7 +5,6 @@ use Rattle.chars.specs.Bytes.{slash}
 use Rattle.base.proofs.Bools.{and_false, and_right_true}
 use Rattle.chars.proofs.Searches.{last_le}
 use Rattle.names.proofs.Reserved.{reserved_none, second_le, reserved_is}
-use borrow.Author.Rules.{rules}
 use Rattle.names.proofs.parts.is_reserved.Goals as goal
 
 pub returns-then-p-eq0 : goal.returns-then-p-eq0

@@ -1,9 +1,7 @@
 use mathlib.Core.Path.{sym}
-use native.Mathlib.Omega.{arith}
 use Rattle.names.specs.Names.{segment}
 use Rattle.chars.specs.Lists.{last_byte}
 use Rattle.names.proofs.PlainBytes.{segment_known, segment_rest}
-use borrow.Author.Rules.{rules}
 use Rattle.names.proofs.parts.is_segment.Goals as goal
 
 pub returns-then-n-eq0 : goal.returns-then-n-eq0

@@ -1,5 +1,4 @@
 use native.Mathlib.Omega.{arith}
-use borrow.Author.Rules.{rules}
 use Rattle.names.specs.PlainBytes.{plain}
 use Rattle.chars.proofs.SameStarts.{every_eight}
 use Rattle.names.proofs.plain.is_plain_eight.Goals as goal

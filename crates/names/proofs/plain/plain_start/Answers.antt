@@ -1,11 +1,5 @@
-use mathlib.Core.Path.{◌≡◌, refl, sym, ◌∙◌}
-use mathlib.Core.Bool.{true}
-use Prim.Native.Nat.{◌-◌, ◌≤◌}
+use mathlib.Core.Path.{sym, ◌∙◌}
 use native.Mathlib.Omega.{arith}
-use lib.ListN.{length, take}
-use borrow.Author.Rules.{rules}
-use Rattle.chars.specs.Lists.{every}
-use Rattle.names.specs.PlainBytes.{plain}
 use Rattle.names.proofs.PlainBytes.{plain_none, plain_more}
 use Rattle.names.proofs.plain.plain_start.Goals as goal
 

@@ -1,12 +1,9 @@
-use mathlib.Core.Path.{◌≡◌, refl, sym, ◌∙◌}
+use mathlib.Core.Path.{◌≡◌}
 use mathlib.Core.Bool.{true}
 use Prim.Native.Nat.{◌-◌, ◌≤◌}
-use native.Mathlib.Omega.{arith}
-use lib.ListN.{length, take}
-use borrow.Author.Rules.{rules}
+use lib.ListN.{take}
 use Rattle.chars.specs.Lists.{every}
 use Rattle.names.specs.PlainBytes.{plain}
-use Rattle.names.proofs.PlainBytes.{plain_none, plain_more}
 use Rattle.names.proofs.plain.plain_start.Given as goal
 
 abbrev pub invariant-loop-i : goal.invariant-loop-i

@@ -1,6 +1,5 @@
 use mathlib.Core.Path.{sym, ◌∙◌}
 use mathlib.Core.Bool.{false≢true}
-use borrow.Author.Rules.{rules}
 use Rattle.names.proofs.table.lay_table.Goals as goal
 
 pub returns-else-wanted : goal.returns-else-wanted

@@ -1,7 +1,6 @@
 use borrow.Author.Tests.{le-leb, lt-leb}
 use Rattle.base.proofs.Bools.{and_false, and_right_true}
 use Rattle.names.specs.Types.{identifier}
-use borrow.Author.Rules.{rules}
 use Rattle.names.proofs.types.is_id.Goals as goal
 
 pub returns-then-n-gt63 : goal.returns-then-n-gt63

@@ -1,4 +1,3 @@
-use borrow.Author.Rules.{rules}
 use Rattle.names.specs.Types.{media_type}
 use Rattle.names.proofs.types.is_media_type.Goals as goal
 

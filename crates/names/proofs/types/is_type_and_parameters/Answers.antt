@@ -1,13 +1,11 @@
-use mathlib.Core.Path.{◌≡◌, sym, ◌∙◌}
-use Prim.Native.Nat.{◌-◌, ◌≤◌}
+use mathlib.Core.Path.{sym, ◌∙◌}
+use Prim.Native.Nat.{◌≤◌}
 use native.Mathlib.Omega.{arith}
-use lib.ListN.{length, drop}
+use lib.ListN.{length}
 use Rattle.chars.specs.Bytes.{semicolon}
 use Rattle.chars.specs.Lists.{split}
-use Rattle.names.specs.Types.{type_and_parameters}
-use Rattle.names.specs.Reading.{Parts}
 use Rattle.names.proofs.Tokens.{slash_parts, equals_parts}
-use Rattle.names.proofs.Media.{headed, type_headed, stretches_not, stretches_within, stretches_last, stretches_more}
+use Rattle.names.proofs.Media.{type_headed, stretches_not, stretches_within, stretches_last, stretches_more}
 use Rattle.names.proofs.types.is_type_and_parameters.Goals as goal
 use Rattle.names.proofs.types.is_type_and_parameters.Goals.{Else-e-n}
 

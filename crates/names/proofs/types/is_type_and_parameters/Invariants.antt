@@ -1,13 +1,11 @@
-use mathlib.Core.Path.{◌≡◌, sym, ◌∙◌}
+use mathlib.Core.Path.{◌≡◌}
 use Prim.Native.Nat.{◌-◌, ◌≤◌}
-use native.Mathlib.Omega.{arith}
 use lib.ListN.{length, drop}
 use Rattle.chars.specs.Bytes.{semicolon}
 use Rattle.chars.specs.Lists.{split}
 use Rattle.names.specs.Types.{type_and_parameters}
 use Rattle.names.specs.Reading.{Parts}
-use Rattle.names.proofs.Tokens.{slash_parts, equals_parts}
-use Rattle.names.proofs.Media.{headed, type_headed, stretches_not, stretches_within, stretches_last, stretches_more}
+use Rattle.names.proofs.Media.{headed}
 use Rattle.names.proofs.types.is_type_and_parameters.Given as goal
 
 abbrev pub invariant-loop-i : goal.invariant-loop-i

@@ -1,6 +1,5 @@
 use mathlib.Core.Path.{refl}
 use native.Mathlib.Omega.{arith}
-use borrow.Author.Rules.{rules}
 use Rattle.names.proofs.Media.{first_missing, first_within, second_missing, pair_found}
 use Rattle.names.proofs.types.pair_end.Goals as goal
 

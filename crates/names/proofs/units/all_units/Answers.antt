@@ -1,12 +1,10 @@
 use mathlib.Core.Path.{◌≡◌, refl, sym, ap, ◌∙◌}
 use mathlib.Core.List.{List}
 use Rattle.chars.specs.declared.units.Grammar.{Grammar}
-use Prim.Native.Nat.{ℕ, ◌≤◌, ◌+◌, ◌-◌}
+use Prim.Native.Nat.{ℕ, ◌≤◌, ◌+◌}
 use native.Mathlib.Omega.{arith}
 use lib.ListN.{length, drop, length-drop}
-use borrow.Author.Rules.{rules}
 use Rattle.chars.specs.Characters.{unit}
-use Rattle.chars.specs.Lists.{tiled}
 use Rattle.base.proofs.Lists.{take_rest}
 use Rattle.chars.proofs.Tiles.{tiled_step, tiled_stop, tiled_end}
 use Rattle.chars.proofs.UnitLengths.{unit_le}
@@ -47,12 +45,11 @@ pub loop-i-smaller : goal.loop-i-smaller
 loop-i-smaller c = omega (arith, fits (goal.at.loop-i-smaller c).After-unit_len-n)
 
 pub loop-i-preserved : goal.loop-i-preserved
-loop-i-preserved c =
-    (
-      fits (goal.at.loop-i-preserved c).After-unit_len-n,
-      c.loop-i.invariant.1 ∙ tiled_step (unit (G (goal.at.loop-i-preserved c).After-unit_len-n)) (S (goal.at.loop-i-preserved c).After-unit_len-n) (I (goal.at.loop-i-preserved c).After-unit_len-n) c.unit_len-n.result (here (goal.at.loop-i-preserved c).After-unit_len-n) c.if-n-eq0.false
-          (fits (goal.at.loop-i-preserved c).After-unit_len-n),
-    )
+loop-i-preserved c = (
+  fits (goal.at.loop-i-preserved c).After-unit_len-n,
+  c.loop-i.invariant.1 ∙ tiled_step (unit (G (goal.at.loop-i-preserved c).After-unit_len-n)) (S (goal.at.loop-i-preserved c).After-unit_len-n) (I (goal.at.loop-i-preserved c).After-unit_len-n) c.unit_len-n.result (here (goal.at.loop-i-preserved c).After-unit_len-n) c.if-n-eq0.false
+      (fits (goal.at.loop-i-preserved c).After-unit_len-n),
+)
 
 pub returns : goal.returns
 returns c = sym (c.loop-i.invariant.1 ∙ tiled_end (unit _) _ c.loop-i.i c.loop-i-test.false)

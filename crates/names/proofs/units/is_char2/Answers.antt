@@ -1,5 +1,4 @@
 use Rattle.chars.specs.Characters.{char2}
-use borrow.Author.Rules.{rules}
 use Rattle.names.proofs.units.is_char2.Goals as goal
 
 pub returns : goal.returns

@@ -1,5 +1,4 @@
 use Rattle.chars.specs.Characters.{char3}
-use borrow.Author.Rules.{rules}
 use Rattle.names.proofs.units.is_char3.Goals as goal
 
 pub returns : goal.returns

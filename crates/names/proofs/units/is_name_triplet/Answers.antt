@@ -4,7 +4,6 @@ use mathlib.Core.Bool.{true}
 use native.Mathlib.Omega.{arith}
 use Rattle.chars.specs.Bytes.{hex_digit}
 use Rattle.chars.proofs.Classes.{hex_small}
-use borrow.Author.Rules.{rules}
 use Rattle.names.proofs.units.is_name_triplet.Goals as goal
 
 pub overflow_mul-v : goal.overflow_mul-v

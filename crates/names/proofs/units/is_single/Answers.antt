@@ -1,4 +1,3 @@
-use borrow.Author.Rules.{rules}
 use Rattle.names.proofs.units.is_single.Goals as goal
 
 pub returns-in-Segment : goal.returns-in-Segment

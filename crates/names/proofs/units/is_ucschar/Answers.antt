@@ -1,5 +1,4 @@
 use Rattle.chars.specs.Characters.{ucschar}
-use borrow.Author.Rules.{rules}
 use Rattle.names.proofs.units.is_ucschar.Goals as goal
 
 pub returns : goal.returns

@@ -1,5 +1,4 @@
 use Rattle.chars.specs.Characters.{long_unit}
-use borrow.Author.Rules.{rules}
 use Rattle.names.proofs.units.long_unit.Goals as goal
 
 pub returns-then-a-is_triplet : goal.returns-then-a-is_triplet

@@ -1,5 +1,4 @@
 use Rattle.chars.specs.Characters.{unit}
-use borrow.Author.Rules.{rules}
 use Rattle.names.proofs.units.unit_len.Goals as goal
 
 pub returns-then-is_single : goal.returns-then-is_single

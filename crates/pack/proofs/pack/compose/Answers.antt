@@ -3,7 +3,6 @@ use Rattle.output.proofs.Answering.{answer_refused, fitted_short, fitted_bytes}
 use Rattle.pack.proofs.Composing.{compose_9, compose_4, package_short, part_few, compose_text}
 use mathlib.Core.List.{[]}
 use native.Mathlib.Omega.{arith}
-use borrow.Author.Rules.{rules}
 use mathlib.Core.Bool.{not}
 use mathlib.Core.Path.{ap}
 use Rattle.pack.proofs.pack.compose.Goals as goal

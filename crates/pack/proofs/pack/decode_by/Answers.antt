@@ -1,11 +1,8 @@
-use Prim.Native.Nat.{◌-◌, ◌≤◌, ◌<◌}
-use mathlib.Core.Path.{◌≡◌, refl}
-use mathlib.Core.List.{◌++◌, map}
+use Prim.Native.Nat.{◌<◌}
+use mathlib.Core.Path.{refl}
 use native.Mathlib.Omega.{arith}
 use lib.Dec.{ltb}
-use lib.ListN.{length, take, drop, length-set}
-use borrow.Author.Rules.{rules}
-use Rattle.pack.specs.Pack.{package_of, decoded, slashed}
+use lib.ListN.{length, length-set}
 use Rattle.pack.proofs.Decoding.{decode_start, one_or_three, decode_turn, decode_end}
 use Rattle.pack.proofs.pack.decode_by.Goals as goal
 

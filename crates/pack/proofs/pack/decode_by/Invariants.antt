@@ -1,12 +1,8 @@
-use Prim.Native.Nat.{◌-◌, ◌≤◌, ◌<◌}
-use mathlib.Core.Path.{◌≡◌, refl}
+use Prim.Native.Nat.{◌-◌, ◌≤◌}
+use mathlib.Core.Path.{◌≡◌}
 use mathlib.Core.List.{◌++◌, map}
-use native.Mathlib.Omega.{arith}
-use lib.Dec.{ltb}
-use lib.ListN.{length, take, drop, length-set}
-use borrow.Author.Rules.{rules}
+use lib.ListN.{length, take, drop}
 use Rattle.pack.specs.Pack.{package_of, decoded, slashed}
-use Rattle.pack.proofs.Decoding.{decode_start, one_or_three, decode_turn, decode_end}
 use Rattle.pack.proofs.pack.decode_by.Given as goal
 
 abbrev pub invariant-loop-i : goal.invariant-loop-i

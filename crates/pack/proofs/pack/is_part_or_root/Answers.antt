@@ -1,4 +1,3 @@
-use borrow.Author.Rules.{rules}
 use Rattle.pack.specs.Pack.{part_or_root}
 use Rattle.pack.proofs.pack.is_part_or_root.Goals as goal
 

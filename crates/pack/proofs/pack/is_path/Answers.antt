@@ -1,4 +1,3 @@
-use borrow.Author.Rules.{rules}
 use Rattle.pack.proofs.pack.is_path.Goals as goal
 
 pub returns : goal.returns

@@ -1,4 +1,3 @@
-use borrow.Author.Rules.{rules}
 use Rattle.pack.specs.Pack.{unfragmented_iri}
 use Rattle.pack.proofs.pack.is_unfragmented.Goals as goal
 

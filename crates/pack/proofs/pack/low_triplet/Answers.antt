@@ -1,5 +1,4 @@
 use native.Mathlib.Omega.{arith}
-use borrow.Author.Rules.{rules}
 use Rattle.chars.proofs.Classes.{hex_small}
 use Rattle.pack.proofs.Decoding.{first_hex, second_hex, low_is, low_high, low_none}
 use Rattle.pack.proofs.pack.low_triplet.Goals as goal

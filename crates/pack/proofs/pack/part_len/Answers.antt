@@ -1,4 +1,3 @@
-use borrow.Author.Rules.{rules}
 use Rattle.pack.proofs.pack.part_len.Goals as goal
 
 pub returns-then-is_root : goal.returns-then-is_root

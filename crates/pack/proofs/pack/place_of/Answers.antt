@@ -1,7 +1,6 @@
 use mathlib.Core.Path.{sym, ap}
 use native.Mathlib.Omega.{arith}
 use lib.Seq.{length-take-le}
-use borrow.Author.Rules.{rules}
 use Rattle.pack.proofs.Locating.{no_pack, no_authority, no_room_lem, no_end, no_path, located_at}
 use mathlib.Core.Bool.{not}
 use Rattle.pack.proofs.pack.place_of.Goals as goal

@@ -1,4 +1,3 @@
-use borrow.Author.Rules.{rules}
 use Rattle.output.proofs.Sending.{sent_more}
 use Rattle.pack.proofs.pack.put_authority.Goals as goal
 

@@ -1,4 +1,3 @@
-use borrow.Author.Rules.{rules}
 use Rattle.chars.specs.Bytes.{percent, colon, slash}
 use Rattle.iri.specs.Components.{question, at_sign, comma}
 use Rattle.pack.specs.Pack.{escape}

@@ -1,14 +1,8 @@
-use Prim.Native.Nat.{◌-◌, ◌≤◌, ◌+◌, ◌*◌, ◌<◌}
-use mathlib.Core.Path.{◌≡◌, refl, ◌∙◌}
-use native.Mathlib.Omega.{arith}
-use lib.ListN.{take, length, get_or}
-use lib.Seq.{take_all}
-use borrow.Author.Rules.{rules}
-use Rattle.base.proofs.Lists.{take_rest}
+use Prim.Native.Nat.{◌-◌, ◌≤◌, ◌+◌, ◌*◌}
+use mathlib.Core.Path.{◌≡◌}
+use lib.ListN.{take, length}
 use Rattle.pack.specs.Pack.{escaped}
 use Rattle.output.specs.Sends.{Sent}
-use Rattle.pack.proofs.Escapes.{escape_few, escaped_more}
-use Rattle.output.proofs.Sending.{sent_none, sent_more}
 use Rattle.pack.proofs.pack.put_escaped.Given as goal
 
 abbrev pub invariant-loop-i : goal.invariant-loop-i

@@ -1,6 +1,5 @@
 use native.Mathlib.Omega.{arith}
 use Rattle.pack.proofs.Composing.{unfragmented_length, unfragmented_few, head_end_few, pack_none, pack_sent}
-use borrow.Author.Rules.{rules}
 use Rattle.pack.proofs.pack.put_pack_iri.Goals as goal
 
 pub slice_bounds-put_authority-end : goal.slice_bounds-put_authority-end

@@ -42,17 +42,16 @@ pub slice_bounds-emit-end : goal.slice_bounds-emit-end
 slice_bounds-emit-end c = package_end_length c.args.s.now _ _ c.requires _ _ c.decode-k.ensures c.decode-k.auto.out
 
 pub emit-at-requires : goal.emit-at-requires
-emit-at-requires c =
-    (
-      omega arith,
-      omega (
-        arith,
-        package_end_few c.args.s.now _ _ c.requires _ _ c.decode-k.ensures
-            c.decode-k.auto.out,
-        package_end_length c.args.s.now _ _ c.requires _ _ c.decode-k.ensures
-            c.decode-k.auto.out,
-      ),
-    )
+emit-at-requires c = (
+  omega arith,
+  omega (
+    arith,
+    package_end_few c.args.s.now _ _ c.requires _ _ c.decode-k.ensures
+        c.decode-k.auto.out,
+    package_end_length c.args.s.now _ _ c.requires _ _ c.decode-k.ensures
+        c.decode-k.auto.out,
+  ),
+)
 
 pub slice_bounds-emit-end-2 : goal.slice_bounds-emit-end-2
 slice_bounds-emit-end-2 c =

@@ -1,5 +1,4 @@
 use native.Mathlib.Omega.{arith}
-use borrow.Author.Rules.{rules}
 use Rattle.pack.specs.Pack.{resolve_pack}
 use Rattle.pack.proofs.Locating.{placed_at, located_refused, placed_none}
 use Rattle.pack.proofs.pack.resolve_pack.Goals as goal

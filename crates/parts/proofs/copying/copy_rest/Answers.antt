@@ -1,5 +1,4 @@
 use Rattle.parts.proofs.OutputCopies.{rest_none, rest_some}
-use borrow.Author.Rules.{rules}
 use Rattle.parts.proofs.copying.copy_rest.Goals as goal
 
 pub returns-then-n-skip : goal.returns-then-n-skip

@@ -3,7 +3,6 @@ use native.Mathlib.Omega.{arith}
 use Rattle.model.specs.Calls.{Prints, PartAt}
 use Rattle.contract.proofs.Opening.{turned_away_lem, let_in}
 use Rattle.parts.proofs.PartCalls.{position_missing, position_written}
-use borrow.Author.Rules.{rules}
 use Rattle.parts.proofs.positions.part_at.Goals as goal
 
 pub returns-then-k-ne0 : goal.returns-then-k-ne0

@@ -1,8 +1,5 @@
-use Prim.Native.Nat.{◌-◌}
 use mathlib.Core.Path.{refl}
 use native.Mathlib.Omega.{arith}
-use borrow.Author.Rules.{rules}
-use Rattle.parts.specs.Walks.{Walking}
 use Rattle.parts.proofs.PartWalks.{walking_begin, walking_more, walked_stop, walked_end}
 use Rattle.parts.proofs.positions.walk.Goals as goal
 

@@ -1,9 +1,5 @@
 use Prim.Native.Nat.{◌-◌}
-use mathlib.Core.Path.{refl}
-use native.Mathlib.Omega.{arith}
-use borrow.Author.Rules.{rules}
 use Rattle.parts.specs.Walks.{Walking}
-use Rattle.parts.proofs.PartWalks.{walking_begin, walking_more, walked_stop, walked_end}
 use Rattle.parts.proofs.positions.walk.Given as goal
 
 abbrev pub invariant-loop-row : goal.invariant-loop-row

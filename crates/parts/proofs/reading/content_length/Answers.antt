@@ -1,7 +1,4 @@
-use Prim.Native.Nat.{◌-◌}
 use native.Mathlib.Omega.{arith}
-use borrow.Author.Rules.{rules}
-use Rattle.parts.specs.Copies.{Measuring}
 use Rattle.parts.proofs.OutputCopies.{measuring_begin, measuring_more, measured_end}
 use Rattle.parts.proofs.reading.content_length.Goals as goal
 

@@ -1,9 +1,5 @@
-use Prim.Native.Nat.{◌-◌}
-use mathlib.Core.Path.{◌≡◌, refl}
+use mathlib.Core.Path.{refl}
 use native.Mathlib.Omega.{arith}
-use lib.ListN.{length}
-use borrow.Author.Rules.{rules}
-use Rattle.parts.specs.Copies.{Copying}
 use Rattle.parts.proofs.OutputCopies.{copying_begin, copying_more, copied_full, copied_end}
 use Rattle.parts.proofs.reading.copy_content.Goals as goal
 
@@ -17,12 +13,11 @@ pub copy_rest-at-requires : goal.copy_rest-at-requires
 copy_rest-at-requires c = omega (arith, c.if-out-at.false)
 
 pub loop-i-preserved : goal.loop-i-preserved
-loop-i-preserved c =
-    (
-      omega (arith, c.loop-i.invariant.0),
-      copying_more _ _ _ _ _ _ _ _ _ c.loop-i.invariant.1 c.loop-i.invariant.0
-          c.loop-i-test.true _ c.field-piece.ensures.2 _ _ c.copy_rest-at.ensures _ c.skip_past-skip.ensures,
-    )
+loop-i-preserved c = (
+  omega (arith, c.loop-i.invariant.0),
+  copying_more _ _ _ _ _ _ _ _ _ c.loop-i.invariant.1 c.loop-i.invariant.0
+      c.loop-i-test.true _ c.field-piece.ensures.2 _ _ c.copy_rest-at.ensures _ c.skip_past-skip.ensures,
+)
 
 pub returns : goal.returns
 returns c = copied_end _ _ _ _ _ _ _ _ _ c.loop-i.invariant.1 c.loop-i.invariant.0 c.loop-i-test.false

@@ -1,10 +1,7 @@
 use Prim.Native.Nat.{◌-◌}
-use mathlib.Core.Path.{◌≡◌, refl}
-use native.Mathlib.Omega.{arith}
+use mathlib.Core.Path.{◌≡◌}
 use lib.ListN.{length}
-use borrow.Author.Rules.{rules}
 use Rattle.parts.specs.Copies.{Copying}
-use Rattle.parts.proofs.OutputCopies.{copying_begin, copying_more, copied_full, copied_end}
 use Rattle.parts.proofs.reading.copy_content.Given as goal
 
 abbrev pub invariant-loop-i : goal.invariant-loop-i

@@ -3,7 +3,6 @@ use Rattle.model.specs.Calls.{Prints, ReadPart}
 use Rattle.contract.proofs.Opening.{turned_away_lem, let_in}
 use Rattle.parts.proofs.GroupRuns.{name_fits}
 use Rattle.parts.proofs.PartCalls.{read_misnamed, read_missing, read_done}
-use borrow.Author.Rules.{rules}
 use mathlib.Core.Bool.{not}
 use Rattle.parts.proofs.reading.read_part.Goals as goal
 

@@ -1,7 +1,6 @@
 use mathlib.Core.Path.{refl}
 use Rattle.contract.proofs.SoughtKeys.{aimed_whole, placed_whole}
 use Rattle.parts.proofs.GroupEnds.{behind_low, behind_high, behind_between}
-use borrow.Author.Rules.{rules}
 use Rattle.parts.proofs.runs.end_behind.Goals as goal
 
 pub seek-place-requires : goal.seek-place-requires

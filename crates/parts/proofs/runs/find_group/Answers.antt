@@ -3,7 +3,6 @@ use native.Mathlib.Omega.{arith}
 use Rattle.contract.proofs.SoughtKeys.{aimed_whole, placed_whole}
 use Rattle.parts.proofs.GroupRuns.{grouped}
 use Rattle.parts.proofs.GroupEnds.{grouped_whole}
-use borrow.Author.Rules.{rules}
 use Rattle.parts.proofs.runs.find_group.Goals as goal
 
 pub seek-place-requires : goal.seek-place-requires

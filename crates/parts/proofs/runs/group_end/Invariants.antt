@@ -1,10 +1,5 @@
 use Prim.Native.Nat.{◌-◌}
-use native.Mathlib.Omega.{arith}
-use borrow.Author.Rules.{rules}
-use Rattle.chars.proofs.FoldedNames.{text_folded, text_equivalent}
 use Rattle.parts.specs.Runs.{Ending}
-use Rattle.parts.proofs.GroupRuns.{ending_begin, ending_more, ended_stop, ended_end}
-use Rattle.parts.proofs.GroupEnds.{ended-behind}
 use Rattle.parts.proofs.runs.group_end.Given as goal
 
 abbrev pub invariant-loop-e : goal.invariant-loop-e

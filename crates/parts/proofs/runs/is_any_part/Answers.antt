@@ -1,7 +1,6 @@
 use mathlib.Core.Path.{refl}
 use native.Mathlib.Omega.{arith}
 use Rattle.parts.proofs.GroupRuns.{part_of_long}
-use borrow.Author.Rules.{rules}
 use Rattle.parts.proofs.runs.is_any_part.Goals as goal
 
 pub returns-then-p-gt-FOLDED_SIZE : goal.returns-then-p-gt-FOLDED_SIZE

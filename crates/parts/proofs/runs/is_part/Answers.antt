@@ -1,5 +1,4 @@
 use Rattle.parts.proofs.GroupRuns.{part_of}
-use borrow.Author.Rules.{rules}
 use Rattle.parts.proofs.runs.is_part.Goals as goal
 
 pub returns : goal.returns

@@ -1,5 +1,4 @@
 use Rattle.parts.proofs.GroupRuns.{judged_none, judged_last}
-use borrow.Author.Rules.{rules}
 use Rattle.parts.proofs.runs.makes_part.Goals as goal
 
 pub returns-then-to-from : goal.returns-then-to-from

@@ -1,6 +1,5 @@
 use mathlib.Core.Path.{refl}
 use native.Mathlib.Omega.{arith}
-use borrow.Author.Rules.{rules}
 use Rattle.parts.proofs.GroupEnds.{ended_alone, ended_own, ended_long}
 use Rattle.parts.proofs.runs.own_end.Goals as goal
 

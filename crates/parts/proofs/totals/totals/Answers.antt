@@ -3,7 +3,6 @@ use mathlib.Core.Path.{refl}
 use Rattle.model.specs.Calls.{Looks, Totals}
 use Rattle.contract.proofs.Opening.{turned_away_lem, let_in}
 use Rattle.parts.proofs.PartCalls.{totals_done}
-use borrow.Author.Rules.{rules}
 use Rattle.parts.proofs.totals.totals.Goals as goal
 
 pub returns-then-k-ne0 : goal.returns-then-k-ne0

@@ -1,6 +1,5 @@
 use mathlib.Core.Path.{refl, ap}
 use native.Mathlib.Omega.{arith}
-use borrow.Author.Rules.{rules}
 use Rattle.model.specs.Calls.{CutPart}
 use Rattle.contract.proofs.Opening.{turned_away_lem, let_in}
 use Rattle.parts.proofs.GroupRuns.{name_fits}

@@ -1,5 +1,4 @@
 use mathlib.Core.Path.{refl, ap}
-use borrow.Author.Rules.{rules}
 use borrow.Author.Tests.{le-leb, lt-leb}
 use Rattle.pieces.proofs.CutCalls.{cut_no_part, cut_in_pieces, cut_uncounted, cut_full, cut_fits}
 use mathlib.Core.Bool.{not}

@@ -3,7 +3,6 @@ use native.Mathlib.Omega.{arith}
 use native.Mathlib.Nat.{div-le_self}
 use lib.ListN.{length}
 use lib.Seq.{length-take-le}
-use borrow.Author.Rules.{rules}
 use Rattle.pieces.proofs.CutCalls.{cut_nameless, cut_row_done}
 use Rattle.pieces.proofs.cutting.cut_row.Goals as goal
 

@@ -1,7 +1,6 @@
 use Prim.Native.Nat.{ℕ, ◌*◌, ◌-◌, ◌≤◌}
 use native.Mathlib.Omega.{arith}
 use native.Mathlib.Nat.{mul-le-mul_right}
-use borrow.Author.Rules.{rules}
 use Rattle.pieces.proofs.CutCalls.{room_many, room_told}
 use Rattle.pieces.proofs.cutting.has_cut_room.Goals as goal
 

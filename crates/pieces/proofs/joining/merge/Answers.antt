@@ -1,9 +1,6 @@
-use Prim.Native.Nat.{◌-◌, ◌≤◌, ◌<◌}
-use mathlib.Core.Path.{◌≡◌, refl}
+use mathlib.Core.Path.{refl}
 use native.Mathlib.Omega.{arith}
-use lib.ListN.{length}
-use borrow.Author.Rules.{rules}
-use Rattle.pieces.proofs.MergedRows.{TakenUp, taken_own, taken_up_more, merged}
+use Rattle.pieces.proofs.MergedRows.{taken_own, taken_up_more, merged}
 use Rattle.pieces.proofs.joining.merge.Goals as goal
 
 pub loop-k-init : goal.loop-k-init

@@ -1,9 +1,7 @@
 use Prim.Native.Nat.{◌-◌, ◌≤◌, ◌<◌}
-use mathlib.Core.Path.{◌≡◌, refl}
-use native.Mathlib.Omega.{arith}
+use mathlib.Core.Path.{◌≡◌}
 use lib.ListN.{length}
-use borrow.Author.Rules.{rules}
-use Rattle.pieces.proofs.MergedRows.{TakenUp, taken_own, taken_up_more, merged}
+use Rattle.pieces.proofs.MergedRows.{TakenUp}
 use Rattle.pieces.proofs.joining.merge.Given as goal
 
 abbrev pub invariant-loop-k : goal.invariant-loop-k

@@ -1,4 +1,3 @@
-use borrow.Author.Rules.{rules}
 use borrow.Author.Tests.{lt-ltb, ltb-true}
 use Rattle.pieces.proofs.ChangedRows.{there_is, not_there}
 use mathlib.Core.Path.{sym, ◌∙◌}

@@ -1,4 +1,3 @@
-use borrow.Author.Rules.{rules}
 use borrow.Author.Tests.{not-true, not-false}
 use Rattle.pieces.proofs.ChangedRows.{behind_lost, behind_full, behind_is}
 use mathlib.Core.Bool.{not}

@@ -1,4 +1,3 @@
-use borrow.Author.Rules.{rules}
 use Rattle.pieces.proofs.ChangedRows.{rename_lost, rename_done}
 use Rattle.pieces.proofs.rows.rename.Goals as goal
 

@@ -1,7 +1,6 @@
 use mathlib.Core.Path.{sym, ap, ◌∙◌}
 use native.Mathlib.Omega.{arith}
 use lib.ListN.{length}
-use borrow.Author.Rules.{rules}
 use Rattle.pieces.proofs.ChangedRows.{renamed_as}
 use Rattle.pieces.proofs.splitting.name_first.Goals as goal
 

@@ -1,8 +1,7 @@
-use Prim.Native.Nat.{◌≤◌}
 use native.Mathlib.Omega.{arith}
 use borrow.Author.Rules.{rules}
 use mathlib.Core.Path.{refl}
-use Rattle.pieces.proofs.Splits.{Dividing, dividing_none, dividing_next, dividing_all}
+use Rattle.pieces.proofs.Splits.{dividing_none, dividing_next, dividing_all}
 use Rattle.pieces.proofs.splitting.split.Goals as goal
 
 pub loop-k-init : goal.loop-k-init
@@ -18,12 +17,11 @@ split_off-requires c =
     (omega (arith, pre.1), pre.3, pre.2)
 
 pub loop-k-preserved : goal.loop-k-preserved
-loop-k-preserved c =
-    (
-      omega arith,
-      omega arith,
-      dividing_next _ _ _ _ _ _ _ _ _ _ _ _ c.loop-k.invariant.2 (omega arith) (omega arith) (omega arith) refl c.piece_size.ensures (omega arith) c.split_off.ensures,
-    )
+loop-k-preserved c = (
+  omega arith,
+  omega arith,
+  dividing_next _ _ _ _ _ _ _ _ _ _ _ _ c.loop-k.invariant.2 (omega arith) (omega arith) (omega arith) refl c.piece_size.ensures (omega arith) c.split_off.ensures,
+)
 
 pub returns : goal.returns
 returns c = dividing_all _ _ _ _ _ _ _ _ _ _ c.loop-k.invariant.2 (omega arith) (omega arith) refl c.name_first.ensures

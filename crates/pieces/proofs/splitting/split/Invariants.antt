@@ -1,8 +1,5 @@
 use Prim.Native.Nat.{◌≤◌}
-use native.Mathlib.Omega.{arith}
-use borrow.Author.Rules.{rules}
-use mathlib.Core.Path.{refl}
-use Rattle.pieces.proofs.Splits.{Dividing, dividing_none, dividing_next, dividing_all}
+use Rattle.pieces.proofs.Splits.{Dividing}
 use Rattle.pieces.proofs.splitting.split.Given as goal
 
 abbrev pub invariant-loop-k : goal.invariant-loop-k

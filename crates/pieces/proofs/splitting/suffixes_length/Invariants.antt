@@ -1,11 +1,6 @@
-use mathlib.Core.Path.{◌≡◌, refl, ap, ◌∙◌}
-use Prim.Native.Nat.{ℕ, suc, ◌+◌, ◌*◌, ◌-◌, ◌≤◌}
-use native.Mathlib.Omega.{arith}
-use native.Mathlib.Numerals.{add-one}
-use lib.Dec.{eqb}
-use lib.ListN.{length}
+use mathlib.Core.Path.{◌≡◌}
+use Prim.Native.Nat.{◌*◌, ◌-◌, ◌≤◌}
 use Rattle.model.specs.Cutting.{suffix_sum}
-use Rattle.pieces.specs.Suffixes.{suffix_text}
 use Rattle.pieces.proofs.splitting.suffixes_length.Given as goal
 
 abbrev pub invariant-loop-k : goal.invariant-loop-k

@@ -1,5 +1,4 @@
 use native.Mathlib.Omega.{arith}
-use borrow.Author.Rules.{rules}
 use Rattle.pieces.proofs.suffixes.piece_tag.Goals as goal
 
 pub returns-then-last : goal.returns-then-last

@@ -1,6 +1,5 @@
 use native.Mathlib.Omega.{arith}
 use lib.ListN.{length-set}
-use borrow.Author.Rules.{rules}
 use Rattle.pieces.proofs.SuffixTexts.{put_one, put_two, put_three}
 use Rattle.pieces.proofs.suffixes.put_number.Goals as goal
 

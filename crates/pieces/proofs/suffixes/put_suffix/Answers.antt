@@ -1,7 +1,6 @@
 use Prim.Native.Nat.{◌+◌}
 use mathlib.Core.Bool.{true, false}
 use native.Mathlib.Omega.{arith}
-use borrow.Author.Rules.{rules}
 use Rattle.names.specs.Items.{last_text}
 use Rattle.pieces.proofs.SuffixTexts.{suffix_last, suffix_other, suffix_written}
 use Rattle.pieces.proofs.suffixes.put_suffix.Goals as goal

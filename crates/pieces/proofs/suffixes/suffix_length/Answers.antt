@@ -1,5 +1,4 @@
 use native.Mathlib.Omega.{arith}
-use borrow.Author.Rules.{rules}
 use Rattle.pieces.proofs.SuffixTexts.{suffix_last, suffix_other}
 use Rattle.pieces.proofs.suffixes.suffix_length.Goals as goal
 

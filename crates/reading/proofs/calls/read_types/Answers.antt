@@ -3,7 +3,6 @@ use Rattle.markup.proofs.PlacedEntries.{form_accepted, form_unread}
 use Rattle.model.specs.Calls.{Changes, ReadTypes}
 use Rattle.contract.proofs.Opening.{turned_away_lem, let_in}
 use Rattle.reading.proofs.ReadRuns.{types_unread, types_ran}
-use borrow.Author.Rules.{rules}
 use Rattle.reading.proofs.calls.read_types.Goals as goal
 
 pub returns-then-k-ne0 : goal.returns-then-k-ne0

@@ -8,7 +8,6 @@ use Rattle.types.proofs.TypeCalls.{as_default, default_fits}
 use Rattle.reading.specs.Notes.{shade_default}
 use Rattle.reading.proofs.NotedEntries.{field_stopped, noting_judged}
 use Rattle.reading.proofs.Shades.{noting_default}
-use borrow.Author.Rules.{rules}
 use Rattle.reading.proofs.judging.judge_default.Goals as goal
 
 pub returns-then-k-ne0 : goal.returns-then-k-ne0

@@ -8,7 +8,6 @@ use Rattle.types.proofs.TypeCalls.{as_override, override_fits}
 use Rattle.reading.specs.Notes.{shade_override}
 use Rattle.reading.proofs.NotedEntries.{field_stopped, noting_judged}
 use Rattle.reading.proofs.Shades.{noting_override}
-use borrow.Author.Rules.{rules}
 use Rattle.reading.proofs.judging.judge_override.Goals as goal
 
 pub returns-then-k-ne0 : goal.returns-then-k-ne0

@@ -8,7 +8,6 @@ use Rattle.contract.proofs.FieldSizes.{source_size}
 use Rattle.reading.specs.Notes.{shade_relationship}
 use Rattle.reading.proofs.NotedEntries.{field_stopped, noting_judged}
 use Rattle.reading.proofs.Shades.{Ours, noting_relationship}
-use borrow.Author.Rules.{rules}
 use Rattle.reading.proofs.judging.judge_relationship.Goals as goal
 
 pub returns-then-k-ne0 : goal.returns-then-k-ne0

@@ -1,7 +1,6 @@
 use mathlib.Core.Path.{sym, ◌∙◌}
 use native.Mathlib.Omega.{arith}
 use lib.Seq.{length-take-le}
-use borrow.Author.Rules.{rules}
 use Rattle.model.proofs.Numbers.{zero_numbered}
 use Rattle.store.proofs.PackageTest.{package_shape}
 use Rattle.contract.specs.Rows.{relationship_row}

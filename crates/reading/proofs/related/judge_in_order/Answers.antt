@@ -1,13 +1,8 @@
-use Prim.Native.Nat.{◌-◌}
-use mathlib.Core.Path.{◌≡◌, refl, ◌∙◌}
+use mathlib.Core.Path.{refl, ◌∙◌}
 use native.Mathlib.Omega.{arith}
-use lib.ListN.{length, drop}
-use borrow.Author.Rules.{rules}
-use Rattle.markup.specs.declared.entries.Kind.TheVariants.{Relationships}
-use Rattle.reading.specs.Entering.{related_first}
 use Rattle.model.proofs.EntryCounts.{relationships_saying}
 use Rattle.reading.proofs.EnteredPlaces.{entered_at, entered_all}
-use Rattle.reading.proofs.JudgingTurns.{JudgedSo, none_judged, shadow_shape, next_fits, next_taken, next_refused, all_judged}
+use Rattle.reading.proofs.JudgingTurns.{none_judged, shadow_shape, next_fits, next_taken, next_refused, all_judged}
 use Rattle.reading.proofs.related.judge_in_order.Goals as goal
 
 pub left_in-left-requires : goal.left_in-left-requires

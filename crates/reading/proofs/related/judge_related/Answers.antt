@@ -2,7 +2,6 @@ use mathlib.Core.Path.{sym}
 use lib.Seq.{length-take-le}
 use Rattle.reading.proofs.EnteredFields.{related_sizes}
 use Rattle.reading.proofs.ShortEntries.{related_judged, related_missing}
-use borrow.Author.Rules.{rules}
 use Rattle.reading.proofs.related.judge_related.Goals as goal
 
 pub slice_bounds-id-end : goal.slice_bounds-id-end

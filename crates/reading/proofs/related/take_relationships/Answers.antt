@@ -1,4 +1,3 @@
-use borrow.Author.Rules.{rules}
 use Rattle.reading.proofs.ReadRuns.{none_took, all_took}
 use Rattle.reading.proofs.related.take_relationships.Goals as goal
 

@@ -5,7 +5,6 @@ use Rattle.model.specs.Calls.{Numbered}
 use Rattle.store.specs.Rows.{make_row}
 use Rattle.model.proofs.Numbers.{when_numbered}
 use Rattle.reading.proofs.NotedRows.{noted_taken, noted_made, noted_refused}
-use borrow.Author.Rules.{rules}
 use Rattle.reading.proofs.shadow.note.Goals as goal
 
 pub returns-then-taken : goal.returns-then-taken

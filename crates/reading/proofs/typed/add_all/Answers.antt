@@ -1,12 +1,8 @@
-use Prim.Native.Nat.{◌-◌}
-use mathlib.Core.Path.{◌≡◌, refl, ◌∙◌}
+use mathlib.Core.Path.{refl, ◌∙◌}
 use native.Mathlib.Omega.{arith}
-use lib.ListN.{length, drop}
-use borrow.Author.Rules.{rules}
-use Rattle.reading.specs.Entering.{typed_first}
 use Rattle.model.proofs.EntryCounts.{types_saying}
 use Rattle.reading.proofs.EnteredPlaces.{entered_at, entered_all}
-use Rattle.reading.proofs.AddingTurns.{AddedSo, none_added, next_fielded, next_added, all_added}
+use Rattle.reading.proofs.AddingTurns.{none_added, next_fielded, next_added, all_added}
 use Rattle.reading.proofs.typed.add_all.Goals as goal
 
 pub loop-i-init : goal.loop-i-init

@@ -1,12 +1,8 @@
 use Prim.Native.Nat.{◌-◌}
-use mathlib.Core.Path.{◌≡◌, refl, ◌∙◌}
-use native.Mathlib.Omega.{arith}
+use mathlib.Core.Path.{◌≡◌}
 use lib.ListN.{length, drop}
-use borrow.Author.Rules.{rules}
 use Rattle.reading.specs.Entering.{typed_first}
-use Rattle.model.proofs.EntryCounts.{types_saying}
-use Rattle.reading.proofs.EnteredPlaces.{entered_at, entered_all}
-use Rattle.reading.proofs.AddingTurns.{AddedSo, none_added, next_fielded, next_added, all_added}
+use Rattle.reading.proofs.AddingTurns.{AddedSo}
 use Rattle.reading.proofs.typed.add_all.Given as goal
 
 abbrev pub invariant-loop-i : goal.invariant-loop-i

@@ -2,7 +2,6 @@ use mathlib.Core.Path.{sym}
 use lib.Seq.{length-take-le}
 use Rattle.reading.proofs.EnteredFields.{typed_sizes}
 use Rattle.reading.proofs.ShortEntries.{typed_judged, typed_missing}
-use borrow.Author.Rules.{rules}
 use Rattle.reading.proofs.typed.judge_typed.Goals as goal
 
 pub slice_bounds-key-end : goal.slice_bounds-key-end

@@ -5,7 +5,6 @@ use Rattle.contract.specs.Rows.{second, relationship_rows}
 use Rattle.contract.proofs.RowKinds.{relationship_rows_lem}
 use Rattle.contract.proofs.SetCalls.{drop_refused, drop_ran}
 use Rattle.relationships.proofs.RelationshipCalls.{key_fits, dropping}
-use borrow.Author.Rules.{rules}
 use Rattle.relationships.proofs.calls.drop_relationship.Goals as goal
 
 pub returns-then-k-ne0 : goal.returns-then-k-ne0

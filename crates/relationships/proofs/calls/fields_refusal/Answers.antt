@@ -1,6 +1,5 @@
 use mathlib.Core.Path.{sym, ◌∙◌}
 use Rattle.relationships.proofs.RelationshipCalls.{fields_source}
-use borrow.Author.Rules.{rules}
 use Rattle.relationships.proofs.calls.fields_refusal.Goals as goal
 
 pub returns-then-k-ne0 : goal.returns-then-k-ne0

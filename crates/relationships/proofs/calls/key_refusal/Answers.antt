@@ -1,5 +1,4 @@
 use Rattle.relationships.proofs.RelationshipCalls.{key_source, key_fine, key_unidentified}
-use borrow.Author.Rules.{rules}
 use Rattle.relationships.proofs.calls.key_refusal.Goals as goal
 
 pub returns-then-k-ne0 : goal.returns-then-k-ne0

@@ -1,6 +1,5 @@
 use native.Mathlib.Omega.{arith}
 use Rattle.relationships.proofs.RelationshipCalls.{fields_id, fields_type, fields_mode, fields_target}
-use borrow.Author.Rules.{rules}
 use mathlib.Core.Bool.{not}
 use mathlib.Core.Path.{ap}
 use Rattle.relationships.proofs.calls.own_refusal.Goals as goal

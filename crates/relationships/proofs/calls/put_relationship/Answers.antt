@@ -8,7 +8,6 @@ use Rattle.contract.specs.Rows.{relationship_row, relationship_rows}
 use Rattle.contract.proofs.RowKinds.{relationship_rows_lem}
 use Rattle.contract.proofs.SetCalls.{put_refused, put_ran}
 use Rattle.relationships.proofs.RelationshipCalls.{source_fits, mode_small, putting}
-use borrow.Author.Rules.{rules}
 use Rattle.relationships.proofs.calls.put_relationship.Goals as goal
 
 pub returns-then-k-ne0 : goal.returns-then-k-ne0

@@ -1,5 +1,4 @@
 use Rattle.relationships.proofs.TargetResolutions.{asked_key, asked_fine, asked_no_package}
-use borrow.Author.Rules.{rules}
 use Rattle.relationships.proofs.resolving.asked_refusal.Goals as goal
 
 pub returns-then-k-ne0 : goal.returns-then-k-ne0

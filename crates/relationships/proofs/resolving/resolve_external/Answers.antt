@@ -1,5 +1,4 @@
 use Rattle.relationships.proofs.TargetResolutions.{bare_length, bare_few, external_short, external_whole}
-use borrow.Author.Rules.{rules}
 use Rattle.relationships.proofs.resolving.resolve_external.Goals as goal
 
 pub slice_bounds-put_reference-end : goal.slice_bounds-put_reference-end

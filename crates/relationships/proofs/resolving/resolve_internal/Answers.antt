@@ -2,7 +2,6 @@ use mathlib.Core.Path.{sym}
 use native.Mathlib.Omega.{arith}
 use lib.Seq.{length-take-le}
 use Rattle.relationships.proofs.TargetResolutions.{path_end, path_few, internal_short, internal_whole}
-use borrow.Author.Rules.{rules}
 use Rattle.relationships.proofs.resolving.resolve_internal.Goals as goal
 
 pub slice_bounds-put_pack_iri-end : goal.slice_bounds-put_pack_iri-end
@@ -15,12 +14,11 @@ slice_bounds-put_pack_iri-end c =
     )))
 
 pub put_pack_iri-length-requires : goal.put_pack_iri-length-requires
-put_pack_iri-length-requires c =
-    (
-      c.requires.3,
-      path_few c.args.source.now c.args.target.now c.requires.1 c.requires.2 _ _
-          c.relative_path-k.ensures,
-    )
+put_pack_iri-length-requires c = (
+  c.requires.3,
+  path_few c.args.source.now c.args.target.now c.requires.1 c.requires.2 _ _
+      c.relative_path-k.ensures,
+)
 
 pub returns-then-out-length : goal.returns-then-out-length
 returns-then-out-length c =

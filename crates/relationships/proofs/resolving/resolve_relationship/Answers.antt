@@ -4,7 +4,6 @@ use Rattle.model.specs.Calls.{Prints, ResolveRelationship}
 use Rattle.contract.proofs.Opening.{turned_away_lem, let_in}
 use Rattle.contract.proofs.SoughtKeys.{aimed_whole, found_whole}
 use Rattle.relationships.proofs.TargetResolutions.{resolve_refused, package_size, source_fits, resolve_missing, resolve_found}
-use borrow.Author.Rules.{rules}
 use Rattle.relationships.proofs.resolving.resolve_relationship.Goals as goal
 
 pub returns-then-k-ne0 : goal.returns-then-k-ne0
@@ -33,15 +32,14 @@ locate-r-requires c =
     record { shape = (let_in _ _ opened.ensures c.if-k-ne0.false).shape; aimed = aimed_whole _ _ c.fold_into.ensures _ _ _ refl }
 
 pub resolve_row-requires : goal.resolve_row-requires
-resolve_row-requires c =
-    (
-      (let_in _ _ c.opened-k.ensures c.if-k-ne0.false).shape,
-      omega
-          (arith, c.count.ensures.0, c.if-r-count.true),
-      package_size _
-          (let_in _ _ c.opened-k.ensures c.if-k-ne0.false) c.args.source.now c.args.id.now
-          c.args.base.now c.args.out.now _ c.asked_refusal-k.ensures c.if-k-ne0-2.false,
-    )
+resolve_row-requires c = (
+  (let_in _ _ c.opened-k.ensures c.if-k-ne0.false).shape,
+  omega
+      (arith, c.count.ensures.0, c.if-r-count.true),
+  package_size _
+      (let_in _ _ c.opened-k.ensures c.if-k-ne0.false) c.args.source.now c.args.id.now
+      c.args.base.now c.args.out.now _ c.asked_refusal-k.ensures c.if-k-ne0-2.false,
+)
 
 pub returns-then-r-count : goal.returns-then-r-count
 returns-then-r-count c =

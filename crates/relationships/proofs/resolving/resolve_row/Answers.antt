@@ -1,5 +1,4 @@
 use Rattle.relationships.proofs.TargetResolutions.{row_long_target, row_external, row_long_source, row_internal}
-use borrow.Author.Rules.{rules}
 use Rattle.relationships.proofs.resolving.resolve_row.Goals as goal
 
 pub returns-then-target-gt255 : goal.returns-then-target-gt255

@@ -1,4 +1,3 @@
-use borrow.Author.Rules.{rules}
 use native.Mathlib.Omega.{arith}
 use Rattle.script.proofs.CallTests.{no_head, not_whole, code_low, code_high, is_called}
 use Rattle.script.proofs.heads.next_call.Goals as goal

@@ -1,4 +1,3 @@
-use borrow.Author.Rules.{rules}
 use native.Mathlib.Omega.{arith}
 use Rattle.script.proofs.EightBytes.{put8_is}
 use Rattle.script.proofs.numbers.put8.Goals as goal

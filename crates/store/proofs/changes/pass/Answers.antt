@@ -1,4 +1,3 @@
-use borrow.Author.Rules.{rules}
 use Rattle.store.proofs.Passed.{passed_brought, pass_few}
 use Rattle.store.proofs.changes.pass.Goals as goal
 

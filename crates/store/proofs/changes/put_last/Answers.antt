@@ -1,7 +1,6 @@
 use mathlib.Core.Path.{ap, ◌∙◌}
 use Prim.Native.Nat.{ℕ, ◌+◌}
 use mathlib.Core.List.{List, ◌++◌}
-use borrow.Author.Rules.{rules}
 use Rattle.base.specs.Buffer.{splice}
 use Rattle.store.specs.Buffer.{le4}
 use Rattle.store.proofs.changes.put_last.Goals as goal

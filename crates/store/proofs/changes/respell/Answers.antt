@@ -1,4 +1,3 @@
-use borrow.Author.Rules.{rules}
 use Rattle.store.proofs.Respelled.{respelled_brought}
 use Rattle.store.proofs.changes.respell.Goals as goal
 

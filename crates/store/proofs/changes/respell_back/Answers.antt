@@ -1,5 +1,4 @@
 use mathlib.Core.Path.{refl}
-use borrow.Author.Rules.{rules}
 use Rattle.store.proofs.Respelled.{respell_end, respell_fits, respell_used, respelled_here}
 use Rattle.store.proofs.changes.respell_back.Goals as goal
 

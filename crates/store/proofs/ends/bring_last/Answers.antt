@@ -1,5 +1,4 @@
 use native.Mathlib.Omega.{arith}
-use borrow.Author.Rules.{rules}
 use borrow.Author.Tests.{eqb-true, leb-true}
 use Rattle.base.proofs.Bools.{and_both}
 use Rattle.store.proofs.Removing.{size_used}

@@ -1,7 +1,5 @@
 use Prim.Native.Nat.{◌-◌, ◌≤◌}
-use native.Mathlib.Omega.{arith}
-use borrow.Author.Rules.{rules}
-use Rattle.store.proofs.Lowering.{Lowering, lower_none, lower_more, lower_all}
+use Rattle.store.proofs.Lowering.{Lowering}
 use Rattle.store.proofs.ends.lower_above.Given as goal
 
 abbrev pub invariant-loop-i : goal.invariant-loop-i

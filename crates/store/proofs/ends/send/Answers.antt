@@ -1,4 +1,3 @@
-use borrow.Author.Rules.{rules}
 use Rattle.store.proofs.Sending.{sent_copy, sent_turn}
 use Rattle.store.proofs.ends.send.Goals as goal
 

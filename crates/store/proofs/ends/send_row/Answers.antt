@@ -1,5 +1,4 @@
 use native.Mathlib.Omega.{arith}
-use borrow.Author.Rules.{rules}
 use Rattle.store.proofs.Lasting.{last_sent, end_inside, row_inside, no_gap}
 use Rattle.store.proofs.ends.send_row.Goals as goal
 

@@ -1,4 +1,3 @@
-use borrow.Author.Rules.{rules}
 use mathlib.Core.Path.{sym, ◌∙◌}
 use Rattle.store.proofs.Headers.{rows_count}
 use Rattle.store.proofs.header.count.Goals as goal

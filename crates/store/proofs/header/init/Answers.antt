@@ -1,4 +1,3 @@
-use borrow.Author.Rules.{rules}
 use native.Mathlib.Omega.{arith}
 use Rattle.store.proofs.Starting.{empty_is}
 use Rattle.store.proofs.header.init.Goals as goal

@@ -1,5 +1,4 @@
 use Rattle.store.proofs.PackageTest.{package-read, package_short}
-use borrow.Author.Rules.{rules}
 use Rattle.store.proofs.header.is_package.Goals as goal
 
 pub returns-then-len-lt-HEAP_START : goal.returns-then-len-lt-HEAP_START

@@ -2,7 +2,6 @@ use native.Mathlib.Omega.{arith}
 use Prim.Native.Nat.{◌+◌}
 use lib.ListN.{get_or-eq_default}
 use Rattle.store.specs.Buffer.{num4}
-use borrow.Author.Rules.{rules}
 use Rattle.store.proofs.header.number.Goals as goal
 
 pub returns : goal.returns

@@ -1,6 +1,5 @@
 use native.Mathlib.Omega.{arith}
 use Rattle.store.proofs.Joined.{put_counts_is}
-use borrow.Author.Rules.{rules}
 use Rattle.store.proofs.header.put_counts.Goals as goal
 
 pub returns : goal.returns

@@ -1,6 +1,5 @@
 use native.Mathlib.Omega.{arith}
 use Rattle.store.proofs.Gathering.{place_here, place_full, place_gathered}
-use borrow.Author.Rules.{rules}
 use Rattle.store.proofs.heap.free_place.Goals as goal
 
 pub returns-then-e-k : goal.returns-then-e-k
@@ -14,8 +13,7 @@ returns-then-e-get4 c =
     (get4.ensures.1, place_full _ _ _ _ get4.ensures.0 c.get4.ensures.0 c.if-e-get4.true)
 
 pub returns : goal.returns
-returns c =
-    (
+returns c = (
   c.get4-2.ensures.1,
   place_gathered _ _ _ _ (omega arith) c.get4-2.ensures.0
       c.compact.ensures,

@@ -1,10 +1,5 @@
-use mathlib.Core.Path.{◌≡◌}
-use Prim.Native.Nat.{◌≤◌, ◌-◌}
 use native.Mathlib.Omega.{arith}
-use lib.ListN.{length}
-use Rattle.store.specs.Packages.{Sound}
-use Rattle.store.specs.Places.{Lowest}
-use Rattle.store.proofs.Gathering.{Gathering, gather_none, gather_some, gather_more, gather_all}
+use Rattle.store.proofs.Gathering.{gather_none, gather_some, gather_more, gather_all}
 use Rattle.store.proofs.heap.gather_each.Goals as goal
 
 pub loop-r-init : goal.loop-r-init

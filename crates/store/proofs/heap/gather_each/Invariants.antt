@@ -1,10 +1,9 @@
 use mathlib.Core.Path.{◌≡◌}
 use Prim.Native.Nat.{◌≤◌, ◌-◌}
-use native.Mathlib.Omega.{arith}
 use lib.ListN.{length}
 use Rattle.store.specs.Packages.{Sound}
 use Rattle.store.specs.Places.{Lowest}
-use Rattle.store.proofs.Gathering.{Gathering, gather_none, gather_some, gather_more, gather_all}
+use Rattle.store.proofs.Gathering.{Gathering}
 use Rattle.store.proofs.heap.gather_each.Given as goal
 
 abbrev pub invariant-loop-r : goal.invariant-loop-r

@@ -1,4 +1,3 @@
-use borrow.Author.Rules.{rules}
 use native.Mathlib.Omega.{arith}
 use Rattle.store.proofs.Joined.{put_fields_is}
 use Rattle.store.proofs.heap.put_fields.Goals as goal

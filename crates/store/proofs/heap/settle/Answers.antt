@@ -1,6 +1,5 @@
 use native.Mathlib.Omega.{arith}
 use Rattle.store.proofs.Gathering.{settle_is}
-use borrow.Author.Rules.{rules}
 use Rattle.store.proofs.heap.settle.Goals as goal
 
 pub returns-then-e-o : goal.returns-then-e-o

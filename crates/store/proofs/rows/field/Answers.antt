@@ -1,5 +1,4 @@
 use Rattle.store.proofs.Reading.{field_at}
-use borrow.Author.Rules.{rules}
 use Rattle.store.proofs.rows.field.Goals as goal
 
 pub returns : goal.returns

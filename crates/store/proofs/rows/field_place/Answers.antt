@@ -1,6 +1,5 @@
 use native.Mathlib.Omega.{arith}
 use Rattle.store.proofs.Reading.{read_0, read_1, read_2, read_3, field_none, field_here}
-use borrow.Author.Rules.{rules}
 use Rattle.store.proofs.rows.field_place.Goals as goal
 
 pub returns-then-pkg-lt-HEAP_START : goal.returns-then-pkg-lt-HEAP_START

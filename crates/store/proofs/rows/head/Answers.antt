@@ -1,5 +1,3 @@
-use native.Mathlib.Omega.{arith}
-use borrow.Author.Rules.{rules}
 use Rattle.store.proofs.Reading.{head_of}
 use Rattle.store.proofs.rows.head.Goals as goal
 

@@ -1,7 +1,6 @@
 use mathlib.Core.Path.{refl}
 use native.Mathlib.Omega.{arith}
 use Rattle.store.proofs.Inserting.{place_above, place_fits, insert_is}
-use borrow.Author.Rules.{rules}
 use Rattle.store.proofs.rows.insert.Goals as goal
 
 pub returns-then-at-u : goal.returns-then-at-u

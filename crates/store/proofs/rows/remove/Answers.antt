@@ -1,5 +1,4 @@
 use Rattle.store.proofs.Removing.{remove_never, remove_is}
-use borrow.Author.Rules.{rules}
 use Rattle.store.proofs.rows.remove.Goals as goal
 
 pub returns-then-u-k : goal.returns-then-u-k

@@ -1,6 +1,5 @@
 use native.Mathlib.Omega.{arith}
 use Rattle.store.proofs.Reading.{span_none}
-use borrow.Author.Rules.{rules}
 use Rattle.store.proofs.rows.span_at.Goals as goal
 
 pub returns-then-pkg-at : goal.returns-then-pkg-at

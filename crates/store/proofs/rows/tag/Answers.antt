@@ -1,5 +1,4 @@
 use Rattle.store.proofs.Reading.{read_tag}
-use borrow.Author.Rules.{rules}
 use Rattle.store.proofs.rows.tag.Goals as goal
 
 pub returns : goal.returns

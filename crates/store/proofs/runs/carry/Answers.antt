@@ -1,7 +1,6 @@
 use mathlib.Core.Path.{refl}
 use mathlib.Core.Logic.{inl, inr}
 use Rattle.store.proofs.Carrying.{carry_is}
-use borrow.Author.Rules.{rules}
 use Rattle.store.proofs.runs.carry.Goals as goal
 
 pub returns-then-o-a : goal.returns-then-o-a

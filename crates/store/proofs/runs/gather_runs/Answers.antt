@@ -1,9 +1,7 @@
-use Prim.Native.Nat.{◌≤◌, ◌-◌}
 use native.Mathlib.Omega.{arith}
 use Rattle.store.proofs.Ordering.{named_low}
 use Rattle.store.proofs.Carrying.{carry_left}
-use Rattle.store.proofs.Taking.{Run, run_none, row_behind, row_inside, run_more, run_all}
-use borrow.Author.Rules.{rules}
+use Rattle.store.proofs.Taking.{run_none, row_behind, row_inside, run_more, run_all}
 use Rattle.store.proofs.runs.gather_runs.Goals as goal
 
 pub loop-j-init : goal.loop-j-init

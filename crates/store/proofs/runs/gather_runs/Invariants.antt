@@ -1,9 +1,5 @@
 use Prim.Native.Nat.{◌≤◌, ◌-◌}
-use native.Mathlib.Omega.{arith}
-use Rattle.store.proofs.Ordering.{named_low}
-use Rattle.store.proofs.Carrying.{carry_left}
-use Rattle.store.proofs.Taking.{Run, run_none, row_behind, row_inside, run_more, run_all}
-use borrow.Author.Rules.{rules}
+use Rattle.store.proofs.Taking.{Run}
 use Rattle.store.proofs.runs.gather_runs.Given as goal
 
 abbrev pub invariant-loop-j : goal.invariant-loop-j

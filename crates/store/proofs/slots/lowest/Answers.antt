@@ -1,6 +1,5 @@
-use Prim.Native.Nat.{◌≤◌, ◌-◌}
 use native.Mathlib.Omega.{arith}
-use Rattle.store.proofs.Scanning.{Scanned, scan_none, scan_take, scan_leave, scan_all, scan_hit}
+use Rattle.store.proofs.Scanning.{scan_none, scan_take, scan_leave, scan_all, scan_hit}
 use Rattle.store.proofs.slots.lowest.Goals as goal
 use Rattle.store.proofs.slots.lowest.Goals.{then-c-o, else-c-o}
 
@@ -16,8 +15,8 @@ loop-i-preserved c =
     let o = c.offset-o.ensures in (
       omega arith,
       elim c.if-c-o.branch [
-        then-c-o w ↦ scan_take s _ o _ _ w.if-c-o.true w.r-is w.least-is
-      | else-c-o w ↦ scan_leave s _ o _ _ w.if-c-o.false w.r-is w.least-is
+        | then-c-o w ↦ scan_take s _ o _ _ w.if-c-o.true w.r-is w.least-is
+        | else-c-o w ↦ scan_leave s _ o _ _ w.if-c-o.false w.r-is w.least-is
       ],
     )
 

@@ -1,7 +1,5 @@
 use Prim.Native.Nat.{◌≤◌, ◌-◌}
-use native.Mathlib.Omega.{arith}
-use mathlib.Core.Logic.{⊎_elim}
-use Rattle.store.proofs.Scanning.{Scanned, scan_none, scan_take, scan_leave, scan_all, scan_hit}
+use Rattle.store.proofs.Scanning.{Scanned}
 use Rattle.store.proofs.slots.lowest.Given as goal
 
 abbrev pub invariant-loop-i : goal.invariant-loop-i

@@ -1,7 +1,6 @@
 use mathlib.Core.Path.{◌∙◌}
 use native.Mathlib.Omega.{arith}
 use Rattle.store.proofs.SlotNumbers.{slot_num}
-use borrow.Author.Rules.{rules}
 use Rattle.store.proofs.slots.number.Goals as goal
 
 pub returns : goal.returns

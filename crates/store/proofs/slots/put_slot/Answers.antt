@@ -1,4 +1,3 @@
-use borrow.Author.Rules.{rules}
 use native.Mathlib.Omega.{arith}
 use Rattle.store.proofs.Joined.{put_slot_is}
 use Rattle.store.proofs.slots.put_slot.Goals as goal

@@ -5,7 +5,6 @@ use Rattle.contract.proofs.Opening.{turned_away_lem, let_in}
 use Rattle.contract.proofs.FieldSizes.{source_size}
 use Rattle.contract.proofs.SoughtKeys.{aimed_whole, placed_whole}
 use Rattle.streams.proofs.StreamCalls.{relationships_refused, relationships_written}
-use borrow.Author.Rules.{rules}
 use Rattle.streams.proofs.calls.write_relationships.Goals as goal
 
 pub returns-then-k-ne0 : goal.returns-then-k-ne0

@@ -3,7 +3,6 @@ use native.Mathlib.Omega.{arith}
 use Rattle.model.specs.Calls.{Prints, WriteTypes}
 use Rattle.contract.proofs.Opening.{turned_away_lem, let_in}
 use Rattle.streams.proofs.StreamCalls.{types_written}
-use borrow.Author.Rules.{rules}
 use Rattle.streams.proofs.calls.write_types.Goals as goal
 
 pub returns-then-k-ne0 : goal.returns-then-k-ne0

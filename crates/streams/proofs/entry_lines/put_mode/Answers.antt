@@ -1,6 +1,5 @@
 use Rattle.output.proofs.Sending.{sent_as}
 use Rattle.streams.proofs.LineTexts.{mode_external, mode_internal}
-use borrow.Author.Rules.{rules}
 use Rattle.streams.proofs.entry_lines.put_mode.Goals as goal
 
 pub returns-then-tag-eq-EXTERNAL_TAG : goal.returns-then-tag-eq-EXTERNAL_TAG

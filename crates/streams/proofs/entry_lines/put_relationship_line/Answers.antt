@@ -1,6 +1,5 @@
 use native.Mathlib.Omega.{arith}
 use Rattle.streams.proofs.LineTexts.{sent_relationship}
-use borrow.Author.Rules.{rules}
 use Rattle.streams.proofs.entry_lines.put_relationship_line.Goals as goal
 
 pub put_mode-requires : goal.put_mode-requires

@@ -1,5 +1,4 @@
 use Rattle.output.proofs.Sending.{sent_more}
-use borrow.Author.Rules.{rules}
 use Rattle.streams.proofs.entry_lines.put_stretch.Goals as goal
 
 pub returns : goal.returns

@@ -1,5 +1,4 @@
 use Rattle.streams.proofs.LineTexts.{sent_type}
-use borrow.Author.Rules.{rules}
 use Rattle.streams.proofs.entry_lines.put_type_line.Goals as goal
 
 pub returns : goal.returns

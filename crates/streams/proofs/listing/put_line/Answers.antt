@@ -1,5 +1,4 @@
 use Rattle.streams.proofs.RowListings.{lined_default, lined_override, lined_relationship}
-use borrow.Author.Rules.{rules}
 use Rattle.streams.proofs.listing.put_line.Goals as goal
 
 pub returns-then-t-eq-DEFAULT_TAG : goal.returns-then-t-eq-DEFAULT_TAG

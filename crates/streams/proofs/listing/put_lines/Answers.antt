@@ -1,8 +1,5 @@
-use Prim.Native.Nat.{◌-◌}
-use mathlib.Core.Path.{◌≡◌, refl}
-use lib.ListN.{length}
+use mathlib.Core.Path.{refl}
 use borrow.Author.Rules.{rules}
-use Rattle.streams.specs.Streams.{Listing}
 use Rattle.streams.proofs.RowListings.{listing_begin, listing_near, listing_more, listed_end}
 use Rattle.streams.proofs.listing.put_lines.Goals as goal
 

@@ -1,9 +1,7 @@
 use Prim.Native.Nat.{◌-◌}
-use mathlib.Core.Path.{◌≡◌, refl}
+use mathlib.Core.Path.{◌≡◌}
 use lib.ListN.{length}
-use borrow.Author.Rules.{rules}
 use Rattle.streams.specs.Streams.{Listing}
-use Rattle.streams.proofs.RowListings.{listing_begin, listing_near, listing_more, listed_end}
 use Rattle.streams.proofs.listing.put_lines.Given as goal
 
 abbrev pub invariant-loop-i : goal.invariant-loop-i

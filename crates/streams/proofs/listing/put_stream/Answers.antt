@@ -1,5 +1,4 @@
 use Rattle.streams.proofs.StreamAnswers.{streamed}
-use borrow.Author.Rules.{rules}
 use Rattle.streams.proofs.listing.put_stream.Goals as goal
 
 pub returns : goal.returns

@@ -1,7 +1,4 @@
-use Prim.Native.Nat.{◌-◌}
 use native.Mathlib.Omega.{arith}
-use borrow.Author.Rules.{rules}
-use Rattle.streams.specs.Streams.{Summing}
 use Rattle.streams.proofs.RowSizes.{summing_begin, summing_more, summed}
 use Rattle.streams.proofs.listing.run_size.Goals as goal
 

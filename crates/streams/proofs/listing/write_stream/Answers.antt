@@ -1,5 +1,4 @@
 use Rattle.streams.proofs.StreamAnswers.{answered_foreign, answered_short, answered_bytes}
-use borrow.Author.Rules.{rules}
 use Rattle.streams.proofs.listing.write_stream.Goals as goal
 
 pub returns-then-used-run_size : goal.returns-then-used-run_size

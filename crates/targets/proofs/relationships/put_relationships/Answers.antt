@@ -15,12 +15,11 @@ pub emit-a-requires : goal.emit-a-requires
 emit-a-requires c = (omega arith, omega (arith, length_take_le_length c.find_past-q.result c.args.s.now))
 
 pub emit-b-requires : goal.emit-b-requires
-emit-b-requires c =
-    (
-      omega (arith, c.emit-a.ensures.next_is, length_take_le_length c.find_past-q.result c.args.s.now),
-      omega
-          arith,
-    )
+emit-b-requires c = (
+  omega (arith, c.emit-a.ensures.next_is, length_take_le_length c.find_past-q.result c.args.s.now),
+  omega
+      arith,
+)
 
 pub slice_bounds-emit-count : goal.slice_bounds-emit-count
 slice_bounds-emit-count c =
@@ -33,37 +32,35 @@ slice_bounds-emit-start c =
     search rules
 
 pub emit-c-requires : goal.emit-c-requires
-emit-c-requires c =
-    (
-      omega (
-        arith,
-        c.emit-b.ensures.next_is,
-        c.emit-a.ensures.next_is,
-        length_take_le_length
-            c.find_past-q.result c.args.s.now,
-      ),
-      omega (
-        arith,
-        length_part_le (length c.args.s.now - c.find_past-q.result) c.find_past-q.result
-            c.args.s.now,
-      ),
-    )
+emit-c-requires c = (
+  omega (
+    arith,
+    c.emit-b.ensures.next_is,
+    c.emit-a.ensures.next_is,
+    length_take_le_length
+        c.find_past-q.result c.args.s.now,
+  ),
+  omega (
+    arith,
+    length_part_le (length c.args.s.now - c.find_past-q.result) c.find_past-q.result
+        c.args.s.now,
+  ),
+)
 
 pub emit-requires : goal.emit-requires
-emit-requires c =
-    (
-      omega (
-        arith,
-        c.emit-c.ensures.next_is,
-        c.emit-b.ensures.next_is,
-        c.emit-a.ensures.next_is,
-        length_take_le_length c.find_past-q.result c.args.s.now,
-        length_part_le
-            (length c.args.s.now - c.find_past-q.result) c.find_past-q.result c.args.s.now,
-      ),
-      omega
-          arith,
-    )
+emit-requires c = (
+  omega (
+    arith,
+    c.emit-c.ensures.next_is,
+    c.emit-b.ensures.next_is,
+    c.emit-a.ensures.next_is,
+    length_take_le_length c.find_past-q.result c.args.s.now,
+    length_part_le
+        (length c.args.s.now - c.find_past-q.result) c.find_past-q.result c.args.s.now,
+  ),
+  omega
+      arith,
+)
 
 pub returns : goal.returns
 returns c =

@@ -1,6 +1,5 @@
 use mathlib.Core.Path.{sym, ◌∙◌}
 use native.Mathlib.Omega.{arith}
-use borrow.Author.Rules.{rules}
 use Rattle.targets.specs.Relationships.{relationships_part, relationships_of}
 use Rattle.targets.proofs.Judging.{source_few}
 use Rattle.output.proofs.Answering.{answer_refused, dry_short, dry_bytes}

@@ -1,5 +1,4 @@
 use mathlib.Core.Path.{sym, ap}
-use borrow.Author.Rules.{rules}
 use Rattle.targets.proofs.Judging.{internal_no, internal_is}
 use mathlib.Core.Bool.{not}
 use Rattle.targets.proofs.targets.is_internal.Goals as goal

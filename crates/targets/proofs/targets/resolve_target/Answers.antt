@@ -3,7 +3,6 @@ use Prim.Native.Nat.{ℕ}
 use mathlib.Core.List.{List, []}
 use lib.Seq.{length-take-le}
 use native.Mathlib.Omega.{arith}
-use borrow.Author.Rules.{rules}
 use Rattle.output.specs.Answers.{Outcome, written, Text}
 use Rattle.targets.specs.Targets.{resolve_target}
 use Rattle.targets.proofs.Judging.{target_source, source_few, named_le, named_length, target_text, target_refused, named_refused}

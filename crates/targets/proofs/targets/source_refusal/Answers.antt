@@ -1,5 +1,4 @@
 use mathlib.Core.Path.{sym, ap}
-use borrow.Author.Rules.{rules}
 use Rattle.targets.proofs.Judging.{source_root, source_no, source_reserved, source_passes}
 use mathlib.Core.Bool.{not}
 use Rattle.targets.proofs.targets.source_refusal.Goals as goal

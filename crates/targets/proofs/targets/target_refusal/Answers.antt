@@ -1,5 +1,4 @@
 use mathlib.Core.Path.{sym, ◌∙◌}
-use borrow.Author.Rules.{rules}
 use Rattle.targets.proofs.Judging.{refusal_long, refusal_none, refusal_9, refusal_internal, named_length, named_refused}
 use Rattle.targets.proofs.targets.target_refusal.Goals as goal
 

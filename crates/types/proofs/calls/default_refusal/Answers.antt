@@ -1,5 +1,4 @@
 use Rattle.model.specs.Fields.{first, default_fields}
-use borrow.Author.Rules.{rules}
 use mathlib.Core.Bool.{not}
 use mathlib.Core.Path.{ap}
 use Rattle.types.proofs.calls.default_refusal.Goals as goal

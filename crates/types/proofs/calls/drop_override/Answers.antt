@@ -6,7 +6,6 @@ use Rattle.contract.proofs.Opening.{turned_away_lem, let_in}
 use Rattle.contract.proofs.RowKinds.{override_rows_lem}
 use Rattle.contract.proofs.SetCalls.{drop_refused, drop_ran}
 use Rattle.types.proofs.TypeCalls.{part_fits, dropping_override}
-use borrow.Author.Rules.{rules}
 use Rattle.types.proofs.calls.drop_override.Goals as goal
 
 pub returns-then-k-ne0 : goal.returns-then-k-ne0
@@ -21,11 +20,10 @@ returns-then-k-ne0-2 c =
     (dropping_override args.name.now) (c.name_refusal-k.ensures ∙ sym (first_one _)) c.if-k-ne0-2.true
 
 pub drop_row-requires : goal.drop_row-requires
-drop_row-requires c =
-    (
-      (let_in _ _ c.opened-k.ensures c.if-k-ne0.false).shape,
-      (part_fits _ (sym c.name_refusal-k.ensures ∙ c.if-k-ne0-2.false)).1,
-    )
+drop_row-requires c = (
+  (let_in _ _ c.opened-k.ensures c.if-k-ne0.false).shape,
+  (part_fits _ (sym c.name_refusal-k.ensures ∙ c.if-k-ne0-2.false)).1,
+)
 
 pub returns : goal.returns
 unfolding second

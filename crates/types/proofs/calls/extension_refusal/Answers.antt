@@ -1,4 +1,3 @@
-use borrow.Author.Rules.{rules}
 use Rattle.types.proofs.calls.extension_refusal.Goals as goal
 
 pub returns-then-is_extension : goal.returns-then-is_extension

@@ -1,4 +1,3 @@
-use borrow.Author.Rules.{rules}
 use Rattle.types.proofs.calls.name_refusal.Goals as goal
 
 pub returns-then-is_part_name : goal.returns-then-is_part_name

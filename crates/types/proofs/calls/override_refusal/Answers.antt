@@ -1,5 +1,4 @@
 use Rattle.model.specs.Fields.{first, override_fields}
-use borrow.Author.Rules.{rules}
 use mathlib.Core.Bool.{not}
 use mathlib.Core.Path.{ap}
 use Rattle.types.proofs.calls.override_refusal.Goals as goal

@@ -8,7 +8,6 @@ use Rattle.contract.proofs.Opening.{turned_away_lem, let_in}
 use Rattle.contract.proofs.RowKinds.{default_rows_lem}
 use Rattle.contract.proofs.SetCalls.{put_refused, put_ran}
 use Rattle.types.proofs.TypeCalls.{putting_default, default_fits}
-use borrow.Author.Rules.{rules}
 use Rattle.types.proofs.calls.put_default.Goals as goal
 
 pub returns-then-k-ne0 : goal.returns-then-k-ne0

@@ -3,7 +3,6 @@ use native.Mathlib.Omega.{arith}
 use borrow.Author.Tests.{not-true, not-false}
 use Rattle.parts.proofs.GroupRuns.{name_fits, refused_name, refused_none, refused_part}
 use Rattle.types.proofs.TypeLookups.{type_not_found, type_found}
-use borrow.Author.Rules.{rules}
 use mathlib.Core.Bool.{not}
 use Rattle.types.proofs.media.find_type.Goals as goal
 

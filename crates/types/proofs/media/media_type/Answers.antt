@@ -2,7 +2,6 @@ use mathlib.Core.Path.{refl}
 use Rattle.model.specs.Calls.{Prints, MediaType}
 use Rattle.contract.proofs.Opening.{turned_away_lem, let_in}
 use Rattle.types.proofs.TypeLookups.{type_stopped, type_none, type_written}
-use borrow.Author.Rules.{rules}
 use Rattle.types.proofs.media.media_type.Goals as goal
 
 pub returns-then-k-ne0 : goal.returns-then-k-ne0

@@ -2,7 +2,6 @@ use mathlib.Core.Path.{refl}
 use mathlib.Core.List.{[]}
 use Rattle.contract.proofs.SoughtKeys.{aimed_whole, aimed_rest, found_whole, found_rest}
 use Rattle.types.proofs.TypeLookups.{extension_inside, typed_override, typed_bare, typed_default}
-use borrow.Author.Rules.{rules}
 use Rattle.types.proofs.media.type_row.Goals as goal
 
 pub locate-r-requires : goal.locate-r-requires

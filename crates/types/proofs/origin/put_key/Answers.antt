@@ -3,7 +3,6 @@ use native.Mathlib.Nat.{zero-add}
 use lib.ListN.{length}
 use Rattle.base.specs.Buffer.{splice}
 use Rattle.types.proofs.TypeOrigins.{key_short, key_override, key_default}
-use borrow.Author.Rules.{rules}
 use Rattle.types.proofs.origin.put_key.Goals as goal
 
 pub returns-then-out-key : goal.returns-then-out-key

@@ -3,7 +3,6 @@ use native.Mathlib.Omega.{arith}
 use Rattle.model.specs.Calls.{TypeOrigin}
 use Rattle.contract.proofs.Opening.{turned_away_lem, let_in}
 use Rattle.types.proofs.TypeOrigins.{origin_stopped, origin_neither, origin_keyed}
-use borrow.Author.Rules.{rules}
 use Rattle.types.proofs.origin.type_origin.Goals as goal
 
 pub returns-then-k-ne0 : goal.returns-then-k-ne0
