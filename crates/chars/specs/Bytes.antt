@@ -60,11 +60,11 @@ letter b = within (code "A") (code "Z") b || within (code "a") (code "z") b
 unfoldable pub hex_digit : ℕ → Bool
 hex_digit b = digit b || within (code "A") (code "F") b || within (code "a") (code "f") b
 
--- "an ASCII letter, digit or `-.◌~`": RFC 3986 unreserved
+-- "an ASCII letter, digit or `-._~`": RFC 3986 unreserved
 unfoldable pub unreserved : ℕ → Bool
 unreserved b = letter b || digit b || one_of (ascii "-._~") b
 
--- the bytes that stand for themselves in a segment: "ASCII letters, digits, `-.◌~`, `!$&'()*+,;=`, `:@`"
+-- the bytes that stand for themselves in a segment: "ASCII letters, digits, `-._~`, `!$&'()*+,;=`, `:@`"
 unfoldable pub segment_byte : ℕ → Bool
 segment_byte b = unreserved b || one_of (ascii "!$&'()*+,;=") b || one_of (ascii ":@") b
 
@@ -82,7 +82,7 @@ lead3 b = within 0xE0 0xEF b
 abbrev pub lead4 : ℕ → Bool
 lead4 b = within 0xF0 0xF7 b
 
--- the sets of bytes that texts are made of or searched for: RFC 7230's tchar; "letters, digits, `+-.`" of a scheme; "letters, digits, `.◌-`" of
+-- the sets of bytes that texts are made of or searched for: RFC 7230's tchar; "letters, digits, `+-.`" of a scheme; "letters, digits, `._-`" of
 -- an id; and what ends a scheme, an authority and a path in RFC 3986, appendix B
 unfoldable pub member : Alphabet → ℕ → Bool
 member Token b = letter b || digit b || one_of (ascii "!#$%&'*+-.^_`|~") b

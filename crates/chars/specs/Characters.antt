@@ -35,7 +35,7 @@ char4 a b c d = lead4 a && continuation b && continuation c && continuation d &&
 abbrev pub stands : ℕ → ℕ → ℕ
 stands b c = 16 * hex_value b + hex_value c
 
--- the triplet rule of names: "no triplet is %2F or %5C or stands for an ASCII letter, digit or `-.◌~`; triplets are judged one at a time"
+-- the triplet rule of names: "no triplet is %2F or %5C or stands for an ASCII letter, digit or `-._~`; triplets are judged one at a time"
 unfoldable pub name_triplet : ℕ → ℕ → Bool
 name_triplet b c = hex_digit b && hex_digit c && not (eqb (stands b c) 0x2F) && not (eqb (stands b c) 0x5C) && not (unreserved (stands b c))
 

@@ -46,7 +46,7 @@ less = code "<"
 abbrev pub after_text : List ℕ → List ℕ
 after_text s = drop (index_of less s) s
 
--- NAMES. "Names are made like ids": "letter or `_`, then letters, digits, `.◌-`",
+-- NAMES. "Names are made like ids": "letter or `_`, then letters, digits, `._-`",
 abbrev pub name_first : ℕ → Bool
 name_first b = letter b || eqb b underscore
 

@@ -1,4 +1,4 @@
--- Digits read at the position i, after the readNumber v.
+-- Digits read at the position i, after the number v.
 -- Assumes nothing.
 use mathlib.Core.Path.{◌≡◌, refl, sym, ◌∙◌}
 use mathlib.Core.Bool.{Bool, true, false, not, ◌&&◌, ◌||◌, cond}

@@ -29,6 +29,6 @@ media_type s = within 3 127 (length s) && type_and_parameters (split semicolon s
 unfoldable pub extension : List ℕ → Bool
 extension s = within 1 31 (length s) && lacks dot s && tiled (unit Segment) 0 s
 
--- "an id (1 to 63 bytes: letter or `_`, then letters, digits, `.◌-`, compared exactly)"
+-- "an id (1 to 63 bytes: letter or `_`, then letters, digits, `._-`, compared exactly)"
 unfoldable pub identifier : List ℕ → Bool
 identifier s = within 1 63 (length s) && (letter (get_or s 0 0) || eqb (get_or s 0 0) underscore) && every (member Id) s
