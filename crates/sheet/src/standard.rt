@@ -5,9 +5,9 @@ ghost use Rattle.sheet.specs.Passing.{Passes};
 
 use std::io::{Print, Read};
 
-// Says on the error output what failed: a program that goes on has no other status than 0.
+// Says on the error output what failed, if it takes that: the program goes on, and its status is 0.
 fn complain(rt: &HostRuntime, text: &[u8]) {
-    if rt.stderr().write_all(text).is_err() {}
+    rt.stderr().write_all(text).unwrap_or(());
 }
 
 // Hands a text to standard output.
