@@ -10,9 +10,9 @@ use lib.Seq.{length-take-le, take-add, take_at, drop_at, drop-drop, get_or-take,
 use Rattle.base.specs.Buffer.{part, splice}
 
 module _ (a n : ℕ) (l : List ℕ) where
-  pub get_d_part : (i : ℕ) → i < n → get_or (part a n l) i 0 ≡ get_or l (a + i) 0
+  pub get_or_part : (i : ℕ) → i < n → get_or (part a n l) i 0 ≡ get_or l (a + i) 0
   unfolding part
-  get_d_part i h = rw (get_or-take, get_or-drop)
+  get_or_part i h = rw (get_or-take, get_or-drop)
 
   pub length_part : a + n ≤ length l → length (part a n l) ≡ n
   unfolding part
@@ -82,7 +82,7 @@ module _ (l : List ℕ) (a : ℕ) (s : List ℕ) where
       let e2 : length (part i n l) ≡ n = length_part i n l (omega arith) in
       ext_get_or 0 (part i n (splice l a s)) (part i n l) (e1 ∙ sym e2)
       (λ k b. let b2 : k < n = omega arith in
-      get_d_part i n (splice l a s) k b2 ∙ get_or_splice_before (omega arith) (i + k) (omega arith) ∙ sym (get_d_part i n l k b2))
+      get_or_part i n (splice l a s) k b2 ∙ get_or_splice_before (omega arith) (i + k) (omega arith) ∙ sym (get_or_part i n l k b2))
 
   pub part_after : (i n : ℕ) → a + length s ≤ i → i + n ≤ length l → part i n (splice l a s) ≡ part i n l
   part_after i n q h =
@@ -91,7 +91,7 @@ module _ (l : List ℕ) (a : ℕ) (s : List ℕ) where
       let e2 : length (part i n l) ≡ n = length_part i n l (omega arith) in
       ext_get_or 0 (part i n (splice l a s)) (part i n l) (e1 ∙ sym e2)
       (λ k b. let b2 : k < n = omega arith in
-      get_d_part i n (splice l a s) k b2 ∙ get_or_splice_after (omega arith) (i + k) (omega arith) ∙ sym (get_d_part i n l k b2))
+      get_or_part i n (splice l a s) k b2 ∙ get_or_splice_after (omega arith) (i + k) (omega arith) ∙ sym (get_or_part i n l k b2))
 
   -- a part of what was spliced in
   pub part_in : (i n : ℕ) → i + n ≤ length s → a + length s ≤ length l → part (a + i) n (splice l a s) ≡ part i n s
@@ -101,6 +101,6 @@ module _ (l : List ℕ) (a : ℕ) (s : List ℕ) where
       let e2 : length (part i n s) ≡ n = length_part i n s (omega arith) in
       ext_get_or 0 (part (a + i) n (splice l a s)) (part i n s) (e1 ∙ sym e2)
       (λ k b. let b2 : k < n = omega arith in
-      get_d_part (a + i) n (splice l a s) k b2
+      get_or_part (a + i) n (splice l a s) k b2
       ∙ ap (λ (m : ℕ). get_or (splice l a s) m 0) (add_assoc a i k)
-      ∙ get_or_splice_in (omega arith) (i + k) (omega arith) ∙ sym (get_d_part i n s k b2))
+      ∙ get_or_splice_in (omega arith) (i + k) (omega arith) ∙ sym (get_or_part i n s k b2))

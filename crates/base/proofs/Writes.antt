@@ -7,7 +7,7 @@ use native.Mathlib.Nat.{add_assoc}
 use lib.ListN.{length, take, drop, get_or, length-append, length-take}
 use lib.Seq.{take_at, drop_at, drop-drop, take-length, ext_get_or}
 use Rattle.base.specs.Buffer.{part, splice}
-use Rattle.base.proofs.Parts.{length_splice, part_before, part_after, part_in, length_part, get_d_part, splice_part}
+use Rattle.base.proofs.Parts.{length_splice, part_before, part_after, part_in, length_part, get_or_part, splice_part}
 
 -- m is l with s, of k bytes, from index a on
 pub record Write (l m : List ℕ) (a k : ℕ) (s : List ℕ) : Type 0 where
@@ -38,8 +38,8 @@ part_part a n i k l h q =
     let e2 : length (part (a + i) k l) ≡ k = length_part (a + i) k l (omega arith) in
     ext_get_or 0 (part i k (part a n l)) (part (a + i) k l) (e1 ∙ sym e2)
     (λ j b. let b2 : j < k = omega arith in
-    get_d_part i k (part a n l) j b2 ∙ get_d_part a n l (i + j) (omega arith)
-    ∙ ap (λ (x : ℕ). get_or l x 0) (sym (add_assoc a i j)) ∙ sym (get_d_part (a + i) k l j b2))
+    get_or_part i k (part a n l) j b2 ∙ get_or_part a n l (i + j) (omega arith)
+    ∙ ap (λ (x : ℕ). get_or l x 0) (sym (add_assoc a i j)) ∙ sym (get_or_part (a + i) k l j b2))
 
 pub part_all : (n : ℕ) (l : List ℕ) → length l ≡ n → part 0 n l ≡ l
 unfolding part

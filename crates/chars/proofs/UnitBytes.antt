@@ -53,18 +53,18 @@ module _ (g : Grammar) (q : ℕ → Bool) (covers : Covers g q) where
   front_more n [] e f = refl
   front_more n (x ∷ s) e f = rw (e) f
 
-  get_d_tail : (s : List ℕ) (i : ℕ) → get_or (drop 1 s) i 0 ≡ get_or s (suc i) 0
-  get_d_tail [] i = refl
-  get_d_tail (x ∷ s) i = refl
+  get_or_tail : (s : List ℕ) (i : ℕ) → get_or (drop 1 s) i 0 ≡ get_or s (suc i) 0
+  get_or_tail [] i = refl
+  get_or_tail (x ∷ s) i = refl
 
   front_2 : (s : List ℕ) → q (get_or s 0 0) ≡ true → q (get_or s 1 0) ≡ true → Front 2 s
-  front_2 s a b = front_more 1 s a (front_more 0 (drop 1 s) (ap q (get_d_tail s 0) ∙ b) (front_none (drop 1 (drop 1 s))))
+  front_2 s a b = front_more 1 s a (front_more 0 (drop 1 s) (ap q (get_or_tail s 0) ∙ b) (front_none (drop 1 (drop 1 s))))
 
   front_3 : (s : List ℕ) → q (get_or s 0 0) ≡ true → q (get_or s 1 0) ≡ true → q (get_or s 2 0) ≡ true → Front 3 s
-  front_3 s a b c = front_more 2 s a (front_2 (drop 1 s) (ap q (get_d_tail s 0) ∙ b) (ap q (get_d_tail s 1) ∙ c))
+  front_3 s a b c = front_more 2 s a (front_2 (drop 1 s) (ap q (get_or_tail s 0) ∙ b) (ap q (get_or_tail s 1) ∙ c))
 
   front_4 : (s : List ℕ) → q (get_or s 0 0) ≡ true → q (get_or s 1 0) ≡ true → q (get_or s 2 0) ≡ true → q (get_or s 3 0) ≡ true → Front 4 s
-  front_4 s a b c d = front_more 3 s a (front_3 (drop 1 s) (ap q (get_d_tail s 0) ∙ b) (ap q (get_d_tail s 1) ∙ c) (ap q (get_d_tail s 2) ∙ d))
+  front_4 s a b c d = front_more 3 s a (front_3 (drop 1 s) (ap q (get_or_tail s 0) ∙ b) (ap q (get_or_tail s 1) ∙ c) (ap q (get_or_tail s 2) ∙ d))
 
   passes2 : (a b : ℕ) → char2 a b ≡ true → (q a ≡ true) × (q b ≡ true)
   unfolding char2

@@ -28,8 +28,8 @@ use Rattle.contract.proofs.RowOrders.{set_bound, holds_ordered}
 use Rattle.contract.proofs.RowCharges.{count_rows}
 use Rattle.contract.proofs.SetRows.{set_first}
 
-get_d_front : {E F : Type 0} (f : E → F) (l : List E) (m : List F) (i : ℕ) (d : E) (e : F) → i < length l → get_or (map f l ++ m) i e ≡ f (get_or l i d)
-get_d_front f l m i d e h = get_or-append (map f l) m e i (omega (arith, length-map l f)) ∙ get_or_map_in f l i d e h
+get_or_front : {E F : Type 0} (f : E → F) (l : List E) (m : List F) (i : ℕ) (d : E) (e : F) → i < length l → get_or (map f l ++ m) i e ≡ f (get_or l i d)
+get_or_front f l m i d e h = get_or-append (map f l) m e i (omega (arith, length-map l f)) ∙ get_or_map_in f l i d e h
 
 module _ (b : List ℕ) (S : State) (h : Holds b S) where
   pub items_le : length S.items ≤ count_of b
@@ -39,7 +39,7 @@ module _ (b : List ℕ) (S : State) (h : Holds b S) where
   pub item_row_lem : (i : ℕ) → i < length S.items → row_at b i ≡ item_row (get_or S.items i no_item)
   unfolding rows_for
   item_row_lem i l =
-      sym (row_get_or b i (omega (arith, items_le))) ∙ ap (λ (rs : List Row). get_or rs i no_row) h.lies.rows ∙ get_d_front item_row S.items (other_rows S) i no_item no_row l
+      sym (row_get_or b i (omega (arith, items_le))) ∙ ap (λ (rs : List Row). get_or rs i no_row) h.lies.rows ∙ get_or_front item_row S.items (other_rows S) i no_item no_row l
 
   pub item_tag : (i : ℕ) → i < length S.items → tag_at b i ≡ tag_of (suffix_of (get_or S.items i no_item).name)
   unfolding item_row

@@ -12,7 +12,7 @@ use borrow.Author.Tests.{eq-eqb, ne_eqb}
 use Rattle.base.specs.Buffer.{part}
 use Rattle.base.proofs.Bools.{and_assoc}
 use Rattle.base.proofs.Lists.{get_or_rest}
-use Rattle.base.proofs.Parts.{get_d_part, length_part}
+use Rattle.base.proofs.Parts.{get_or_part, length_part}
 use Rattle.chars.specs.Bytes.{ascii}
 use Rattle.chars.specs.Lists.{same, begins, last_byte}
 use Rattle.markup.specs.Marks.{Outcome, On, Not, either, and_then, expected, after_blanks, name_first, name_at, prefixed}
@@ -40,13 +40,13 @@ module _ (s : List ℕ) (at end : ℕ) (h : at < end) (g : end ≤ length s) whe
   first_is : get_or (part at (end - at) s) 0 0 ≡ get_or s at 0
   first_is =
       let n : at + 0 ≡ at = omega arith in
-      get_d_part at (end - at) s 0 (omega arith) ∙ ap (λ (k : ℕ). get_or s k 0) n
+      get_or_part at (end - at) s 0 (omega arith) ∙ ap (λ (k : ℕ). get_or s k 0) n
 
   last_is : last_byte (part at (end - at) s) ≡ get_or s (end - 1) 0
   unfolding last_byte
   last_is =
       let n : at + (end - at - 1) ≡ end - 1 = omega arith in
-      rw size (get_d_part at (end - at) s (end - at - 1) (omega arith) ∙ ap (λ (k : ℕ). get_or s k 0) n)
+      rw size (get_or_part at (end - at) s (end - at - 1) (omega arith) ∙ ap (λ (k : ℕ). get_or s k 0) n)
 
   pub mark_is : (get_or s at 0 * 5 + get_or s (end - 1) 0 * 3 + (end - at) % 64 * 11) % 64 ≡ mark_of (part at (end - at) s)
   mark_is = rw (first_is, last_is, size)

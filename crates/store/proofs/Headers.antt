@@ -9,9 +9,9 @@ use Rattle.base.specs.Buffer.{part}
 use Rattle.store.specs.Buffer.{num4, le4}
 use Rattle.store.specs.Layout.{format_of, count_of}
 use Rattle.store.specs.Rows.{Row, no_row, rows_of, row_at}
-use Rattle.base.proofs.Parts.{get_d_part}
+use Rattle.base.proofs.Parts.{get_or_part}
 use Rattle.base.proofs.Writes.{part_part}
-use Rattle.store.proofs.Tabulated.{length_tabulate, get_d_tabulate}
+use Rattle.store.proofs.Tabulated.{length_tabulate, get_or_tabulate}
 
 module _ (x y z : ℕ) where
   pub counts_size : length (le4 x ++ (le4 y ++ le4 z)) ≡ 12
@@ -35,7 +35,7 @@ pub rows_count : (b : List ℕ) → length (rows_of b) ≡ count_of b
 rows_count b = length_tabulate (count_of b) (row_at b)
 
 pub row_get_or : (b : List ℕ) (i : ℕ) → i < count_of b → get_or (rows_of b) i no_row ≡ row_at b i
-row_get_or b i h = get_d_tabulate (count_of b) (row_at b) i h
+row_get_or b i h = get_or_tabulate (count_of b) (row_at b) i h
 
 -- two buffers with the same rows
 module _ (b m : List ℕ) (e : rows_of m ≡ rows_of b) where
@@ -49,5 +49,5 @@ module _ (b m : List ℕ) (e : rows_of m ≡ rows_of b) where
 pub kind_same : (b m : List ℕ) → 8 ≤ length b → 8 ≤ length m → part 0 8 m ≡ part 0 8 b → (part 0 7 m ≡ part 0 7 b) × (format_of m ≡ format_of b)
 kind_same b m h q e = (
   sym (part_part 0 8 0 7 m (omega arith) q) ∙ ap (part 0 7) e ∙ part_part 0 8 0 7 b (omega arith) h,
-  sym (get_d_part 0 8 m 7 (omega arith)) ∙ ap (λ (x : List ℕ). get_or x 7 0) e ∙ get_d_part 0 8 b 7 (omega arith),
+  sym (get_or_part 0 8 m 7 (omega arith)) ∙ ap (λ (x : List ℕ). get_or x 7 0) e ∙ get_or_part 0 8 b 7 (omega arith),
 )

@@ -9,17 +9,17 @@ use native.Mathlib.Numerals.{towards_suc}
 use lib.ListN.{length, get_or, set}
 use lib.Seq.{sets-eq}
 use Rattle.base.specs.Buffer.{part, splice}
-use Rattle.base.proofs.Parts.{get_d_part}
+use Rattle.base.proofs.Parts.{get_or_part}
 use Rattle.base.proofs.Writes.{Write, before, after, within}
 use Rattle.store.specs.Buffer.{num4, le4}
 
 pub num4_part : (a n : ℕ) (l : List ℕ) (k : ℕ) → k + 4 ≤ n → num4 (part a n l) k ≡ num4 l (a + k)
 unfolding num4
 num4_part a n l k h =
-    let e0 : get_or (part a n l) k 0 ≡ get_or l (a + k) 0 = get_d_part a n l k (omega arith) in
-    let e1 : get_or (part a n l) (k + 1) 0 ≡ get_or l (a + k + 1) 0 = get_d_part a n l (k + 1) (omega arith) ∙ ap (λ (m : ℕ). get_or l m 0) (sym (add_assoc a k 1)) in
-    let e2 : get_or (part a n l) (k + 2) 0 ≡ get_or l (a + k + 2) 0 = get_d_part a n l (k + 2) (omega arith) ∙ ap (λ (m : ℕ). get_or l m 0) (sym (add_assoc a k 2)) in
-    let e3 : get_or (part a n l) (k + 3) 0 ≡ get_or l (a + k + 3) 0 = get_d_part a n l (k + 3) (omega arith) ∙ ap (λ (m : ℕ). get_or l m 0) (sym (add_assoc a k 3)) in
+    let e0 : get_or (part a n l) k 0 ≡ get_or l (a + k) 0 = get_or_part a n l k (omega arith) in
+    let e1 : get_or (part a n l) (k + 1) 0 ≡ get_or l (a + k + 1) 0 = get_or_part a n l (k + 1) (omega arith) ∙ ap (λ (m : ℕ). get_or l m 0) (sym (add_assoc a k 1)) in
+    let e2 : get_or (part a n l) (k + 2) 0 ≡ get_or l (a + k + 2) 0 = get_or_part a n l (k + 2) (omega arith) ∙ ap (λ (m : ℕ). get_or l m 0) (sym (add_assoc a k 2)) in
+    let e3 : get_or (part a n l) (k + 3) 0 ≡ get_or l (a + k + 3) 0 = get_or_part a n l (k + 3) (omega arith) ∙ ap (λ (m : ℕ). get_or l m 0) (sym (add_assoc a k 3)) in
     omega arith
 
 -- two buffers that agree on four bytes agree on the number

@@ -11,7 +11,7 @@ use Rattle.store.specs.Layout.{heap_start, max_capacity, mark, format_of, packag
 use Rattle.store.specs.Rows.{row_at, rows_of, tabulate, total}
 use Rattle.store.specs.Packages.{Sound}
 use Rattle.store.proofs.Numbers.{num4_le4, num_within, num_before}
-use Rattle.base.proofs.Parts.{get_d_part}
+use Rattle.base.proofs.Parts.{get_or_part}
 use Rattle.base.proofs.Writes.{write, before, within, part_part}
 use Rattle.store.proofs.Joined.{le4_write}
 use Rattle.store.proofs.Headers.{counts_0, counts_4, counts_8, counts_size}
@@ -33,7 +33,7 @@ empty_is b b1 b2 b3 cap h q e1 e2 e3 =
     let u : used_of b3 ≡ 0 = num_within p3 16 4 (omega arith) (omega arith) ∙ counts_4 0 0 0 (omega arith) in
     let v : end_of b3 ≡ 0 = num_within p3 20 8 (omega arith) (omega arith) ∙ counts_8 0 0 0 (omega arith) in
     let k : cap_of b3 ≡ cap = num_before p3 8 (omega arith) ∙ num_within p2 8 0 (omega arith) (omega arith) ∙ num4_le4 cap (omega arith) in
-    let f : format_of b3 ≡ package_format = sym (get_d_part 0 8 b3 7 (omega arith)) ∙ ap (λ (x : List ℕ). get_or x 7 0) k8 in
+    let f : format_of b3 ≡ package_format = sym (get_or_part 0 8 b3 7 (omega arith)) ∙ ap (λ (x : List ℕ). get_or x 7 0) k8 in
     let r : rows_of b3 ≡ [] = ap (λ (x : ℕ). tabulate x (row_at b3)) c in (
       record {
         marked = sym (part_part 0 8 0 7 b3 (omega arith) (omega arith)) ∙ ap (part 0 7) k8;

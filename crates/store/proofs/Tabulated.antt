@@ -72,11 +72,11 @@ unfolding tabulate
 length_tabulate zero f = refl
 length_tabulate (suc n) f = ap suc (length_tabulate n (λ k. f (suc k)))
 
-pub get_d_tabulate : (n : ℕ) (f : ℕ → Row) (i : ℕ) → i < n → get_or (tabulate n f) i no_row ≡ f i
+pub get_or_tabulate : (n : ℕ) (f : ℕ → Row) (i : ℕ) → i < n → get_or (tabulate n f) i no_row ≡ f i
 unfolding tabulate
-get_d_tabulate zero f i h = absurd (omega arith)
-get_d_tabulate (suc n) f zero h = refl
-get_d_tabulate (suc n) f (suc i) h = get_d_tabulate n (λ k. f (suc k)) i (omega arith)
+get_or_tabulate zero f i h = absurd (omega arith)
+get_or_tabulate (suc n) f zero h = refl
+get_or_tabulate (suc n) f (suc i) h = get_or_tabulate n (λ k. f (suc k)) i (omega arith)
 
 -- a row put in, taken out or replaced: the size of the rows
 pub total_insert : (r : ℕ) (x : Row) (l : List Row) → total (insert_at r x l) ≡ row_size x + total l
