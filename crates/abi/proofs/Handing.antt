@@ -13,7 +13,7 @@ use Rattle.pack.specs.Pack.{Location, Found, Not, located, located_where}
 use Rattle.output.proofs.Answering.{refusing_answered, filled_number}
 use Rattle.model.specs.Calls.{Call}
 use Rattle.contract.specs.Ran.{Ran}
-use Rattle.contract.proofs.Rans.{answered as is-answer}
+use Rattle.contract.proofs.Rans.{answered as is_answer}
 use Rattle.abi.specs.declared.replies.Reply.{Reply}
 use Rattle.store.specs.Packages.{is_package}
 use Rattle.entries.specs.Promise.{EntryRan}
@@ -31,7 +31,7 @@ hands_refusal k vs b r out f e z = hands (answer k vs out) b (length vs) r out f
 -- a call on a package: what it ran is an answer
 pub replied : {call : Call} {p : List ℕ} {a : Answer} {q : List ℕ} {r : Reply} {out : List ℕ} → Ran call p a q
     → ((a ≡ unanswered → ⊥) → HandsOver a (values_of call) r out) → Replied call p r out q
-replied {call} {p} {a} {q} x h = record { answered = a; ran = x; handed = h (is-answer call p a q x) }
+replied {call} {p} {a} {q} x h = record { answered = a; ran = x; handed = h (is_answer call p a q x) }
 
 -- the call that copies an entry's field: likewise
 entry_answers : (set position field : ℕ) (output p : List ℕ) (a : Answer) → EntryRan set position field output p a → a ≡ unanswered → ⊥

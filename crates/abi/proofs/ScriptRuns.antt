@@ -11,7 +11,7 @@ use Rattle.base.proofs.Lists.{take_rest}
 use Rattle.model.specs.Sets.{Bytes}
 use Rattle.script.specs.Calls.{call_size, call_in}
 use Rattle.script.proofs.CallTests.{call_inside}
-use Rattle.abi.specs.Scripts.{reply_size, recorded, unread, span_of, lent_in, Scripted, ended as run-ended, full as run-full, strange as run-strange, made as run-made}
+use Rattle.abi.specs.Scripts.{reply_size, recorded, unread, span_of, lent_in, Scripted, ended as run_ended, full as run_full, strange as run_strange, made as run_made}
 use Rattle.abi.specs.Turns.{Turned, full, strange, made, Going}
 
 -- the same in other words
@@ -36,7 +36,7 @@ module _ {s p out q o : Bytes} {k w m : ℕ} (g : Going s p out k w m q o) where
   pub going_ended : length s ≤ k → Scripted s p out q o w k m
   going_ended l =
       let e : drop k s ≡ [] = drop_of_length-le s l in
-      scripted_as (g.on q (drop w out) 0 0 0 (subst (λ (y : Bytes). Scripted y q (drop w out) q (drop w out) 0 0 0) (sym e) run-ended)) refl
+      scripted_as (g.on q (drop w out) 0 0 0 (subst (λ (y : Bytes). Scripted y q (drop w out) q (drop w out) 0 0 0) (sym e) run_ended)) refl
       (ap (λ (y : Bytes). take w o ++ y) (sym g.rest) ∙ take-append-drop w o) (add-zero w) (add-zero k) (add-zero m)
 
   module _ {q' ys : Bytes} {k₁ w₁ : ℕ} (t : Turned (take (length s - k) (drop k s)) q (take (length o - w) (drop w o)) k₁ w₁ q' ys) where
@@ -65,9 +65,9 @@ module _ {s p out q o : Bytes} {k w m : ℕ} (g : Going s p out k w m q o) where
       where
         go : Turned (drop k s) q (drop w out) k₁ w₁ q' ys → Scripted s p out q' o' (w + w₁) k m
         go (full f ek ew eq eo) =
-            scripted_as (g.on q (drop w out) 0 0 0 (run-full f)) (sym eq) (ap (λ (y : Bytes). take w o ++ y) (sym eo) ∙ sym o'_is) (ap (λ (n : ℕ). w + n) (sym ew)) (add-zero k) (add-zero m)
+            scripted_as (g.on q (drop w out) 0 0 0 (run_full f)) (sym eq) (ap (λ (y : Bytes). take w o ++ y) (sym eo) ∙ sym o'_is) (ap (λ (n : ℕ). w + n) (sym ew)) (add-zero k) (add-zero m)
         go (strange e f ek ew eq eo) =
-            scripted_as (g.on q (unread ++ drop reply_size (drop w out)) reply_size 0 0 (run-strange (omega (arith, length-drop k s)) e f)) (sym eq) (ap (λ (y : Bytes). take w o ++ y) (sym eo) ∙ sym o'_is)
+            scripted_as (g.on q (unread ++ drop reply_size (drop w out)) reply_size 0 0 (run_strange (omega (arith, length-drop k s)) e f)) (sym eq) (ap (λ (y : Bytes). take w o ++ y) (sym eo) ∙ sym o'_is)
             (ap (λ (n : ℕ). w + n) (sym ew)) (add-zero k) (add-zero m)
         go (made a e ek ew f ran len eo) = absurd (let c : ◌≡◌ {A = ℕ} 0 1 = omega (arith, (call_inside (drop k s) e).0) in omega arith)
 
@@ -104,7 +104,7 @@ module _ {s p out q o : Bytes} {k w m : ℕ} (g : Going s p out k w m q o) where
                     subst (λ (y : Bytes). Scripted y q' (drop (w + w₁) out) r more w' k' m') (sym (drop-drop k₁ k s) ∙ ap (λ (n : ℕ). drop n S) ek) x in
                     let x₂ : Scripted (drop (call_size S) S) q' (drop (span_of S) O) r more w' k' m' =
                     subst (λ (y : Bytes). Scripted (drop (call_size S) S) q' y r more w' k' m') (sym (drop-drop w₁ w out) ∙ ap (λ (n : ℕ). drop n O) ew) x₁ in
-                    scripted_as (g.on r (text ++ more) (span_of S + w') (call_size S + k') (suc m') (run-made e (subst (λ (n : ℕ). n ≤ length O) ew f) ran (len ∙ ew) x₂)) refl
+                    scripted_as (g.on r (text ++ more) (span_of S + w') (call_size S + k') (suc m') (run_made e (subst (λ (n : ℕ). n ≤ length O) ew f) ran (len ∙ ew) x₂)) refl
                     (sym (append_assoc (take w o) text more) ∙ ap (λ (y : Bytes). y ++ more) (sym taken)) (omega arith) (omega arith) (omega arith);
               },
             )

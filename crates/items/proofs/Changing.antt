@@ -18,7 +18,7 @@ use Rattle.model.specs.Calls.{Changes, PutItem, DropItem, done, refused, changed
 use Rattle.names.proofs.Lengths.{part_name_size}
 use Rattle.output.specs.Answers.{Answer}
 use Rattle.model.proofs.Numbers.{numbered}
-use Rattle.model.proofs.Rows.{rows-remove}
+use Rattle.model.proofs.Rows.{rows_remove}
 use Rattle.model.proofs.ItemNames.{accepted_prefix}
 use Rattle.model.proofs.Refusals.{changed_done}
 use Rattle.store.specs.Layout.{count_of}
@@ -34,7 +34,7 @@ use Rattle.contract.proofs.RowKeys.{tag_small, tag_set}
 use Rattle.contract.proofs.Rans.{field_refused, change_refused, change_made_lem, changed_refused}
 use Rattle.contract.specs.Entries.{Entered}
 use Rattle.contract.proofs.RowKinds.{item_rows_lem}
-use Rattle.contract.proofs.SetCalls.{Putting, put_refused as set-put-refused, put_ran as set-put}
+use Rattle.contract.proofs.SetCalls.{Putting, put_refused as set_put_refused, put_ran as set_put}
 use Rattle.items.specs.Wants.{wanted, Located}
 use Rattle.items.specs.Clashes.{Misfitting}
 use Rattle.items.specs.declared.wanted.Wanted.{Wanted}
@@ -68,7 +68,7 @@ unfolding remove_at rows_for other_rows
 removed_rows S s r e l =
     let k = spot key_of_item (item_key s) S.items in
     let z : 0 + k ≡ r = zero-add k ∙ sym e in
-    sym (rows-remove key_of_item item_row [] (other_rows S) (item_key s) S.items (subst (λ (i : ℕ). i < length S.items) e l)
+    sym (rows_remove key_of_item item_row [] (other_rows S) (item_key s) S.items (subst (λ (i : ℕ). i < length S.items) e l)
     ∙ ap (λ (i : ℕ). take i (map item_row S.items ++ other_rows S) ++ drop (i + 1) (map item_row S.items ++ other_rows S)) z)
 
 -- PUT is a put of the items' set, with its own tests
@@ -108,7 +108,7 @@ module _ (p : Bytes) (ok : Open p) (s : Bytes) (w : Wanted) (ew : w ≡ wanted (
   pub put_refused : (bytes : Bytes) (k : ℕ) → w ≡ Refused k → Ran (Changes (PutItem s bytes)) p (of_did (did.Refused k)) p
   put_refused bytes k e =
       let z = wanted_refused (item_field s) s w ew k e in
-      set-put-refused item_rows item_rows_lem p ok (PutItem s bytes) k (record { name = s; bytes = bytes }) (λ S. misfits s S.items)
+      set_put_refused item_rows item_rows_lem p ok (PutItem s bytes) k (record { name = s; bytes = bytes }) (λ S. misfits s S.items)
       (putting s bytes) (sym z.0) z.1
 
   module _ (n t : ℕ) (en : w ≡ Named n t) where
@@ -142,6 +142,6 @@ module _ (p : Bytes) (ok : Open p) (s : Bytes) (w : Wanted) (ew : w ≡ wanted (
     pub put_ran : (bytes : Bytes) (k : ℕ) → Misfitting p s k → (a : Answer) (q : Bytes) → length q ≡ length p →
         Entered p k 256 (make_row t (take n s) (take (length s - n) (drop n s)) bytes []) a q → Ran (Changes (PutItem s bytes)) p a q
     put_ran bytes k ek a q lq w =
-        set-put item_rows item_rows_lem p ok (PutItem s bytes) 0 (record { name = s; bytes = bytes }) (λ S. misfits s S.items)
+        set_put item_rows item_rows_lem p ok (PutItem s bytes) 0 (record { name = s; bytes = bytes }) (λ S. misfits s S.items)
         (putting s bytes) (sym named.2) refl k ek.is a q lq
         (subst (λ (x : Row). Entered p k 256 x a q) (made_row s bytes n t named.0 named.1) w)

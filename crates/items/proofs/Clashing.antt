@@ -23,7 +23,7 @@ use Rattle.model.proofs.Lists.{any_map, any_same}
 use Rattle.model.proofs.Walks.{first_le}
 use Rattle.model.proofs.Sets.{Absent, absent}
 use Rattle.model.proofs.Places.{bound_place}
-use Rattle.model.proofs.Neighbours.{clashing, disagrees-neighbours}
+use Rattle.model.proofs.Neighbours.{clashing, disagrees_neighbours}
 use Rattle.store.specs.Rows.{Row}
 use Rattle.contract.specs.Rows.{tag_of, item_row, other_rows, rows_for, key_in}
 use Rattle.contract.specs.Holds.{Holds}
@@ -33,7 +33,7 @@ use Rattle.items.specs.Clashes.{tags_disagree, Grown, parted_at, Parted, extends
 use Rattle.items.proofs.Tags.{tags_disagree_is}
 use Rattle.items.proofs.Naming.{prefix_take}
 use Rattle.items.proofs.Locating.{bound_of}
-use Rattle.items.proofs.Growth.{none-grown}
+use Rattle.items.proofs.Growth.{none_grown}
 
 -- THE ORDER OF THE TWO
 module _ (s : Bytes) (xs : List Item) where
@@ -89,7 +89,7 @@ module _
           ≡ (ltb 0 r && (ltb (r - 1) m && opposed_at b (r - 1) (take n s) t) || ltb r m && opposed_at b r (take n s) t)
       neighbours q =
           subst (λ (i : ℕ). Disagreeing s S.items ≡ (ltb 0 i && clashing s (get_or S.items (i - 1) no_item) || ltb i (length S.items) && clashing s (get_or S.items i no_item))) (place_is q)
-          (disagrees-neighbours s S.items h.good.items.sorted h.good.beside (free q) no_item)
+          (disagrees_neighbours s S.items h.good.items.sorted h.good.beside (free q) no_item)
           ∙ ap₂ ◌||◌ (lower (ltb 0 r) refl) (upper (ltb r m) refl)
         where
           lower : (a : Bool) → ltb 0 r ≡ a → (a && clashing s (get_or S.items (r - 1) no_item)) ≡ (a && (ltb (r - 1) m && opposed_at b (r - 1) (take n s) t))
@@ -165,7 +165,7 @@ module _
 
             ungrown : Growing s S.items ≡ false
             ungrown =
-                none-grown S h.good s r (r_is S h)
+                none_grown S h.good s r (r_is S h)
                 (λ z. ap (λ (a : Bytes). eqb (get_or (prefix_of s) (common (fold a) (fold (prefix_of s))) 0) slash)
                 (sym (item_prefix b S h (r - 1) (omega (arith, r_le S h)))) ∙ unparted z)
                 (λ z. ap (λ (a : Bytes). extends a (prefix_of s)) (sym (item_prefix b S h r z)) ∙ unextended z)

@@ -191,10 +191,10 @@ module _ (S : State) (g : Good S) (s : Bytes) (r : ℕ) (er : r ≡ bound key_of
             (lt-ltb (length (prefix_of s)) (length (prefix_at r)) (longer_or (prefix_at r) (prefix_of s) (prefix_at m) d b (pairs_at Beside S.items r m no_item k l g.beside).underived.1))
             (begins_equivalent (prefix_at r) (prefix_of s) b)
 
-  pub none-grown :
+  pub none_grown :
       (0 < r → eqb (get_or (prefix_of s) (common (fold (prefix_at (r - 1))) (fold (prefix_of s))) 0) slash ≡ false) → (r < length S.items → extends (prefix_at r) (prefix_of s) ≡ false) →
       any (λ (i : Item). grows (prefix_of s) (prefix_of i.name)) S.items ≡ false
-  none-grown u v = not_passing (any G S.items) (λ e. at (first_where G S.items) (first_lt G S.items e) (first_passes G S.items no_item (first_lt G S.items e)))
+  none_grown u v = not_passing (any G S.items) (λ e. at (first_where G S.items) (first_lt G S.items e) (first_passes G S.items no_item (first_lt G S.items e)))
     where
       G : Item → Bool
       G i = grows (prefix_of s) (prefix_of i.name)

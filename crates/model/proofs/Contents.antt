@@ -36,9 +36,9 @@ module _ {E : Type 0} where
       less_both = omega arith
 
   -- what is read of a content that begins with a piece: of the piece, then of the rest
-  pub read-piece :
+  pub read_piece :
       (room offset : ℕ) (piece rest : List E) →
       take room (drop offset (piece ++ rest)) ≡ take room (drop offset piece) ++ take (room - length (drop offset piece))
       (drop (offset - length piece) rest)
-  read-piece room offset piece rest = ap (take room) (drop_append offset piece rest)
+  read_piece room offset piece rest = ap (take room) (drop_append offset piece rest)
       ∙ take_append room (drop offset piece) (drop (offset - length piece) rest)

@@ -133,11 +133,11 @@ module _ (S : State) (G : Good S) (name : Bytes) (some : 0 < length (group name 
       regrouped_around = subst (λ (l : List Item). Around name l a new b) (sym placed) (around_new group_around new (spelled_alike new h))
 
   -- so the package stays good, if it has the room
-  pub regrouped-good :
+  pub regrouped_good :
       (new : List Item) → Each (λ (i : Item). prefix_of i.name ≡ spelling g) new → Sorted key_of_item new → AllPairs Beside new →
       Each (λ (i : Item). item_kind.fields i ≡ 0) new → length (regrouped S name new).items ≤ item_limit →
       charge (regrouped S name new) ≤ S.capacity → Good (regrouped S name new)
-  regrouped-good new h s k f few within =
+  regrouped_good new h s k f few within =
       let m = spelled_alike new h in
       let e = sym (placed new h s) in
       item_lawful.good S (with_all new (filter (unlike name) S.items)) G
@@ -171,7 +171,7 @@ pub cut_good : (S : State) (name : Bytes) (n : ℕ) → Good S → cut_refusal S
 cut_good S name n G c =
     let some = part_some (group name S.items) (cut_part S name n c) in
     let high = cut_high S name n c in
-    regrouped-good S G name some (pieces (group name S.items) n) (cut_prefixes S G name n some high) (cut_sorted S G name n some high)
+    regrouped_good S G name some (pieces (group name S.items) n) (cut_prefixes S G name n some high) (cut_sorted S G name n some high)
     (cut_beside S G name n some high) (cut_fielded S G name n some high) (cut_few S name n c) (cut_within S name n c)
 
 -- JOINING. The one item charges no more than its pieces
@@ -192,6 +192,6 @@ join_good S name G c =
     let new = joined_item k ∷ [] in
     let some = part_some k (join_part S name c) in
     let p = group_named S G name some in
-    regrouped-good S G name some new (own_prefix (spelling k) p, tt) (tt, tt) (tt, tt) (own_field (spelling k) p (group_unreserved S G name some), tt)
+    regrouped_good S G name some new (own_prefix (spelling k) p, tt) (tt, tt) (tt, tt) (own_field (spelling k) p (group_unreserved S G name some), tt)
     (omega (arith, length_regrouped S name new, G.items.few))
     (omega (arith, charge_regrouped S name new, joined_charged k, G.within))

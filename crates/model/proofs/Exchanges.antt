@@ -21,7 +21,7 @@ use Rattle.model.proofs.Appends.{pairs_append, pairs_left, pairs_right, pairs_ac
 use Rattle.model.proofs.KeyOrders.{before_asym, begins_less}
 use Rattle.model.proofs.Sets.{insert_front, insert_past, length_insert, sum_insert}
 use Rattle.model.proofs.KindLaws.{item_lawful}
-use Rattle.model.proofs.Groups.{alike, unlike, group-run}
+use Rattle.model.proofs.Groups.{alike, unlike, group_run}
 
 -- BY NUMBERS. Items put in add up
 pub length_with_all : (new xs : List Item) → length (with_all new xs) ≡ length new + length xs
@@ -157,7 +157,7 @@ module _ (p : Bytes) (xs : List Item) (s : Sorted key_of_item xs) (n : 0 < lengt
   around_group =
       let m = lead (alike p) (drop (group_start p xs) xs) in
       let e : group_end p xs - group_start p xs ≡ m = omega arith in
-      around_run (group_start p xs) (group_end p xs) (omega arith) (group-run p xs s ∙ ap (λ (k : ℕ). take k (drop (group_start p xs) xs)) (sym e))
+      around_run (group_start p xs) (group_end p xs) (omega arith) (group_run p xs s ∙ ap (λ (k : ℕ). take k (drop (group_start p xs) xs)) (sym e))
 
 -- THE GROUP AND THE OTHERS
 module _ {p : Bytes} {xs a g b : List Item} (r : Around p xs a g b) where

@@ -69,11 +69,11 @@ module _ (S : State) (new : Default) (name : Bytes) (h : put_refusal default_kin
       (equivalent_fold (extension_of name) new.extension q)
       ∙ put_found default_kind S new [] h
 
-  default-type :
+  default_type :
       lookup key_of_override (name_key name) S.overrides ≡ none → eqb (extension_at name) 0 ≡ false →
       equivalent (extension_of name) new.extension ≡ true → media_type_of name (put_in default_kind S new) ≡ some new.type
   unfolding media_type_of
-  default-type o d q = rw (o, d, default_found q)
+  default_type o d q = rw (o, d, default_found q)
 
 pub defaults_answer : DefaultsAnswer
 unfolding change put_default_refusal
@@ -81,7 +81,7 @@ defaults_answer room S extension type name output h p g o d q =
     let new : Default = record { extension = extension; type = type } in
     let e = changed_accepted (put_refusal default_kind S new []) S (put_in default_kind S new) h in
     printed_after (put_refusal default_kind S new []) S (put_in default_kind S new) (MediaType name) output type e
-    (typed (put_in default_kind S new) name type (length output) p g (default-type S new name e o d q))
+    (typed (put_in default_kind S new) name type (length output) p g (default_type S new name e o d q))
 
 -- WHOLE ITEMS
 filter_insert : {E : Type 0} (key : E → Key) (p : E → Bool) (e : E) (xs : List E) → p e ≡ true → Each (λ (x : E). p x ≡ false) xs →

@@ -76,11 +76,11 @@ least_item p i e = ap (λ (t : Bytes). before (t, rank (suffix_of i.name) ∷ []
     ∙ least_rank (fold p) (rank (suffix_of i.name))
 
 -- the group p is the run from the first item that is not before (p folded, rank 0)
-pub group-run :
+pub group_run :
     (p : Bytes) (xs : List Item) → Sorted key_of_item xs →
     group p xs ≡ take (lead (alike p) (drop (bound key_of_item (fold p, 0 ∷ []) xs) xs)) (drop (bound key_of_item (fold p, 0 ∷ []) xs) xs)
 unfolding group equivalent
-group-run p xs s = span key_of_item (fold p) (0 ∷ []) (least_item p) xs s
+group_run p xs s = span key_of_item (fold p) (0 ∷ []) (least_item p) xs s
 
 -- every id is before `~`, which is above all letters and `_`
 abbrev pub tilde : ℕ
@@ -112,12 +112,12 @@ unfolding relationship_fields
 relationship_id r z = not-false (identifier r.id) (unmet (not (identifier r.id)) 8 (omega arith) (all_none _ z).1.0)
 
 -- so the relationships of a source are those between two bounds
-pub source-between :
+pub source_between :
     (s : Bytes) (rs : List Relationship) → Sorted key_of_relationship rs → Each (λ (r : Relationship). relationship_kind.fields r ≡ 0) rs →
     of_source s rs
     ≡ slice (bound key_of_relationship (fold s, []) rs) (bound key_of_relationship (fold s, tilde ∷ []) rs) rs
 unfolding key_order then_by equivalent
-source-between s rs o z =
+source_between s rs o z =
     filter_between p q eqv rs (not_before_monotone key_of_relationship (fold s, []) rs o)
     (not_before_monotone key_of_relationship (fold s, tilde ∷ []) rs o)
     (each_map (λ (r : Relationship). relationship_kind.fields r ≡ 0) (Parted p q eqv) rs

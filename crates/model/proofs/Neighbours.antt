@@ -146,12 +146,12 @@ module _ (name : Bytes) where
     -- where no item has the key of `name`: its suffix disagrees with some item of its group if and only if it disagrees with one that
     -- stands
     -- directly before or behind its place
-    pub disagrees-neighbours :
+    pub disagrees_neighbours :
         any (λ (i : Item). disagrees (suffix_of name) (suffix_of i.name)) (group (prefix_of name) xs)
         ≡ (ltb 0 (place key_of_item (item_key name) xs) && clashing name (get_or xs (place key_of_item (item_key name) xs - 1) d)
         || ltb (place key_of_item (item_key name) xs) (length xs) && clashing name (get_or xs (place key_of_item (item_key name) xs) d))
     unfolding group n
-    disagrees-neighbours =
+    disagrees_neighbours =
         any_filter (λ (i : Item). disagrees (suffix_of name) (suffix_of i.name)) (alike (prefix_of name)) xs
         ∙ ap (any (clashing name)) (sym (take-append-drop n xs))
         ∙ any_append (clashing name) (take n xs) (drop n xs)

@@ -178,17 +178,17 @@ one_part p (x ∷ g) n h e =
         (λ i k. alike_same (prefix_of x.name) p (equivalent_fold (prefix_of x.name) p h.0) i ∙ k) h
 
 -- what holds of every item's prefix holds of every group's spelling (f bounds the length)
-pub groups-each :
+pub groups_each :
     (P : Bytes → Type 0) (f : ℕ) (xs : List Item) → length xs ≤ f → Sorted key_of_item xs → Each (λ (i : Item). P (prefix_of i.name)) xs →
     Each (λ (g : List Item). P (spelling g)) (groups xs)
 unfolding leaders spelling
-groups-each P zero [] l s h = tt
-groups-each P (suc f) [] l s h = tt
-groups-each P zero (x ∷ ys) l s h = absurd (omega arith)
-groups-each P (suc f) (x ∷ ys) l s h =
+groups_each P zero [] l s h = tt
+groups_each P (suc f) [] l s h = tt
+groups_each P zero (x ∷ ys) l s h = absurd (omega arith)
+groups_each P (suc f) (x ∷ ys) l s h =
     subst (Each (λ (g : List Item). P (spelling g))) (sym (groups_run x ys s)) (
       h.0,
-      groups-each P f (behind x ys) (behind_shorter x ys f l) (behind_sorted x ys s)
+      groups_each P f (behind x ys) (behind_shorter x ys f l) (behind_sorted x ys s)
           (each_drop (λ (i : Item). P (prefix_of i.name)) (rest_of x ys) ys h.1),
     )
 
@@ -202,7 +202,7 @@ groups_folded (suc f) [] l s = tt
 groups_folded zero (x ∷ ys) l s = absurd (omega arith)
 groups_folded (suc f) (x ∷ ys) l s =
     subst (AllPairs InFoldedOrder) (sym (groups_run x ys s)) (
-      groups-each (λ (q : Bytes). order (fold (prefix_of x.name)) (fold q) ≡ Less) f (behind x ys) (behind_shorter x ys f l)
+      groups_each (λ (q : Bytes). order (fold (prefix_of x.name)) (fold q) ≡ Less) f (behind x ys) (behind_shorter x ys f l)
           (behind_sorted x ys s)
           (each_both (λ (i : Item). alike (prefix_of x.name) i ≡ false) (λ (i : Item). before (key_of_item x) (key_of_item i) ≡ true)
           (λ (i : Item). order (fold (prefix_of x.name)) (fold (prefix_of i.name)) ≡ Less) (behind x ys) less
@@ -230,7 +230,7 @@ unfolding parts
 parts_named S g =
     each_filter (λ (q : List Item). Unreserved (spelling q)) (λ (q : List Item). Unreserved (spelling q)) is_part (groups S.items)
     (λ q e h. h)
-    (groups-each Unreserved (length S.items) S.items (omega arith) g.items.sorted
+    (groups_each Unreserved (length S.items) S.items (omega arith) g.items.sorted
     (each_map (λ (i : Item). item_kind.fields i ≡ 0) (λ (i : Item). Unreserved (prefix_of i.name)) S.items
     (λ i h. accepted_prefix i.name h) g.items.fielded))
 

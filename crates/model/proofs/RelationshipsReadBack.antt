@@ -33,7 +33,7 @@ use Rattle.model.proofs.Lists.{each_map, each_all, each_filter, pairs_filter, fi
 use Rattle.model.proofs.Keys.{same_relationship_key}
 use Rattle.model.proofs.Sets.{Absent}
 use Rattle.model.proofs.Refusals.{none_all, changed_done}
-use Rattle.model.proofs.Targets.{Fielded, fielded, mode_le, internal-target}
+use Rattle.model.proofs.Targets.{Fielded, fielded, mode_le, internal_target}
 use Rattle.model.proofs.KindLaws.{relationship_lawful}
 use Rattle.model.proofs.EntryLists.{all_in, Fresh, sorted_apart, all_alone, filter_all_in, filter_all_out}
 use Rattle.model.proofs.EntryPuts.{AllIn, all_in_lem, relationships_put}
@@ -66,7 +66,7 @@ target_iri r f = go (eqb r.mode 1) refl
         let z : eqb r.mode 0 ≡ false = ne_eqb r.mode 0 (λ y. omega arith) in
         external (iri r.target)
         (sym (ap (λ (t : Bool). cond t (internal_refusal r.source r.target) (cond (iri r.target) 0 9)) z) ∙ f.target)
-    go false e = internal_iri r.target (internal-target r f e).0
+    go false e = internal_iri r.target (internal_target r f e).0
 
 writing : (r : Relationship) → relationship_kind.fields r ≡ 0 → Writing r
 unfolding package_iri

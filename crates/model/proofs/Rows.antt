@@ -11,12 +11,12 @@ use Rattle.model.specs.Sets.{Key, before, same_key, insert, remove}
 use Rattle.model.specs.Places.{first_where, place, spot}
 
 module _ {E R : Type 0} (key : E → Key) (f : E → R) where
-  front-insert :
+  front_insert :
       (e : E) (xs : List E) (b : List R) →
       map f (insert key e xs) ++ b ≡ take (place key (key e) xs) (map f xs ++ b) ++ (f e ∷ drop (place key (key e) xs) (map f xs ++ b))
   unfolding insert first_where
-  front-insert e [] b = refl
-  front-insert e (x ∷ xs) b = go (before (key e) (key x)) (front-insert e xs b)
+  front_insert e [] b = refl
+  front_insert e (x ∷ xs) b = go (before (key e) (key x)) (front_insert e xs b)
     where
       go :
           (t : Bool) → map f (insert key e xs) ++ b
@@ -28,26 +28,26 @@ module _ {E R : Type 0} (key : E → Key) (f : E → R) where
       go false h = ap (λ (l : List R). f x ∷ l) h
 
   -- rows a, the set's rows, rows b: the new row's number is that of its place, counted from the first row
-  pub rows-insert :
+  pub rows_insert :
       (a b : List R) (e : E) (xs : List E) →
       a ++ (map f (insert key e xs) ++ b)
       ≡ take (length a + place key (key e) xs) (a ++ (map f xs ++ b)) ++
       (f e ∷ drop (length a + place key (key e) xs) (a ++ (map f xs ++ b)))
-  rows-insert a b e xs =
+  rows_insert a b e xs =
       let n = place key (key e) xs in
       rw (
         take-append-add a (map f xs ++ b) n,
         drop-append-add a (map f xs ++ b) n,
         append_assoc a (take n (map f xs ++ b)) (f e ∷ drop n (map f xs ++ b)),
       )
-      (ap (λ (l : List R). a ++ l) (front-insert e xs b))
+      (ap (λ (l : List R). a ++ l) (front_insert e xs b))
 
-  front-remove :
+  front_remove :
       (k : Key) (xs : List E) (b : List R) → spot key k xs < length xs →
       map f (remove key k xs) ++ b ≡ take (spot key k xs) (map f xs ++ b) ++ drop (suc (spot key k xs)) (map f xs ++ b)
   unfolding remove first_where
-  front-remove k [] b l = absurd (omega arith)
-  front-remove k (x ∷ xs) b l = go (same_key k (key x)) l (front-remove k xs b)
+  front_remove k [] b l = absurd (omega arith)
+  front_remove k (x ∷ xs) b l = go (same_key k (key x)) l (front_remove k xs b)
     where
       go :
           (t : Bool) → cond t 0 (suc (spot key k xs)) < suc (length xs) →
@@ -59,11 +59,11 @@ module _ {E R : Type 0} (key : E → Key) (f : E → R) where
       go true l h = refl
       go false l h = ap (λ (r : List R). f x ∷ r) (h (omega arith))
 
-  pub rows-remove :
+  pub rows_remove :
       (a b : List R) (k : Key) (xs : List E) → spot key k xs < length xs →
       a ++ (map f (remove key k xs) ++ b)
       ≡ take (length a + spot key k xs) (a ++ (map f xs ++ b)) ++ drop (length a + spot key k xs + 1) (a ++ (map f xs ++ b))
-  rows-remove a b k xs l =
+  rows_remove a b k xs l =
       let n = spot key k xs in
       let s : length a + n + 1 ≡ length a + suc n = omega arith in
       rw (
@@ -72,4 +72,4 @@ module _ {E R : Type 0} (key : E → Key) (f : E → R) where
         drop-append-add a (map f xs ++ b) (suc n),
         append_assoc a (take n (map f xs ++ b)) (drop (suc n) (map f xs ++ b)),
       )
-      (ap (λ (r : List R). a ++ r) (front-remove k xs b l))
+      (ap (λ (r : List R). a ++ r) (front_remove k xs b l))

@@ -50,11 +50,11 @@ module _ {E : Type 0} (key : E → Key) where
       go true h = (p, a)
       go false h = (a.0, h)
 
-  pub pairs-insert :
+  pub pairs_insert :
       (R : E → E → Type 0) (e : E) (xs : List E) → Each (R e) xs → Each (λ (x : E). R x e) xs → AllPairs R xs → AllPairs R (insert key e xs)
   unfolding insert
-  pairs-insert R e [] l r a = (tt, tt)
-  pairs-insert R e (x ∷ xs) l r a = go (before (key e) (key x)) (pairs-insert R e xs l.1 r.1 a.1)
+  pairs_insert R e [] l r a = (tt, tt)
+  pairs_insert R e (x ∷ xs) l r a = go (before (key e) (key x)) (pairs_insert R e xs l.1 r.1 a.1)
     where
       go : (b : Bool) → AllPairs R (insert key e xs) → AllPairs R (cond b (e ∷ x ∷ xs) (x ∷ insert key e xs))
       go true h = (l, a)

@@ -23,7 +23,7 @@ use Rattle.model.specs.Calls.{JoinPart, ReadTypes, ReadRelationships, change_ref
 use Rattle.model.specs.Good.{GoodSet, Beside, Good}
 use Rattle.base.proofs.Bools.{or_false_left}
 use Rattle.model.proofs.Lists.{each_map, each_both, any_none, any_filter_none}
-use Rattle.model.proofs.Sets.{Absent, each_insert, pairs-insert, sorted_insert, each_remove, pairs_remove, sorted_remove, length_insert, length_remove}
+use Rattle.model.proofs.Sets.{Absent, each_insert, pairs_insert, sorted_insert, each_remove, pairs_remove, sorted_remove, length_insert, length_remove}
 use Rattle.model.proofs.Refusals.{all_none, unmet, picked, changed_good}
 use Rattle.model.proofs.Items.{beside_new, beside_comm}
 use Rattle.model.proofs.KindLaws.{Lawful, item_lawful, default_lawful, override_lawful, relationship_lawful}
@@ -112,7 +112,7 @@ module _ (S : State) (new : Item) (h : put_refusal item_kind S new (misfits new.
 
   pub put_beside : AllPairs Beside S.items → AllPairs Beside (insert key_of_item new S.items)
   put_beside b =
-      pairs-insert key_of_item Beside new S.items new_beside
+      pairs_insert key_of_item Beside new S.items new_beside
       (each_map (Beside new) (λ (i : Item). Beside i new) S.items (λ i b. beside_comm new i b) new_beside) b
 
 -- ENTRIES OF A STREAM, put in one after the other

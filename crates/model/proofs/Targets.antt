@@ -43,12 +43,12 @@ internal_none true false r h = absurd (omega arith)
 internal_none false p r h = absurd (omega arith)
 
 -- an internal target is of that form, and resolves to an unreserved part name
-pub internal-target :
+pub internal_target :
     (r : Relationship) → Fielded r → eqb r.mode 1 ≡ false →
     (internal r.target ≡ true) × (part_name (resolve_path r.source r.target) ≡ true) ×
     (reserved (resolve_path r.source r.target) ≡ false)
 unfolding target_refusal internal_refusal
-internal-target r f h =
+internal_target r f h =
     let n : r.mode ≡ 1 → ⊥ = eqb-false r.mode 1 h in
     let b : r.mode ≤ 1 = mode_le r.mode f.mode in
     let z : eqb r.mode 0 ≡ true = eq-eqb r.mode 0 (omega arith) in
@@ -70,4 +70,4 @@ target_size r f = go (eqb r.mode 1) refl
         let z : eqb r.mode 0 ≡ false = ne_eqb r.mode 0 (λ y. omega arith) in
         external (iri r.target) refl
         (sym (ap (λ (t : Bool). cond t (internal_refusal r.source r.target) (cond (iri r.target) 0 9)) z) ∙ f.target)
-    go false e = target_few r.source r.target (internal r.target) refl (ap not (internal-target r f e).0)
+    go false e = target_few r.source r.target (internal r.target) refl (ap not (internal_target r f e).0)

@@ -16,7 +16,7 @@ use Rattle.iri.specs.References.{first_segment, rule, turn, turns, remove_dot_se
 use Rattle.targets.specs.Targets.{source_refusal, internal, resolve_path, internal_refusal, target_refusal, resolve_target}
 use Rattle.pack.specs.Pack.{unfragmented, escape, escaped, pack_iri, part_or_root, compose, slashed, low_triplet, decoded, package_of, unfragmented_iri, pack_form, resolve_pack}
 use Rattle.targets.specs.Relationships.{relationships_of, relationships_part, source_of, source_part}
-use Rattle.markup.specs.Examples.{everything as everyStream}
+use Rattle.markup.specs.Examples.{everything as every_stream}
 use Rattle.model.specs.Sets.{then_by, key_order, any, filter, sum_of, lookup, insert, remove}
 use Rattle.model.specs.Places.{first_where}
 use Rattle.model.specs.Fields.{first, prefix_of, suffix_of, item_field, default_fields, override_fields, relationship_fields}
@@ -44,5 +44,5 @@ unfolding digit letter hex_digit unreserved segment_byte continuation member sam
     relationships_text start_refusal clash put_item_refusal drop_item_refusal put_default_refusal drop_default_refusal put_override_refusal
     is_whole pieces_from pieces with_all cut_refusal join_refusal drop_override_refusal put_relationship_refusal drop_relationship_refusal
     change cut origin_of keyed type_origin asked_refusal look resolved printed filled answers after without_empty_end
-    line_read listing shown sheet everyStream types_said relationships_said entries_refusal entries_made read_types_refusal read_relationships_refusal
+    line_read listing shown sheet every_stream types_said relationships_said entries_refusal entries_made read_types_refusal read_relationships_refusal
 everything = tt

@@ -180,10 +180,10 @@ module _ (b : List ℕ) (i n : ℕ) (l : i < n) where
   }
 
 -- a walk that has come to row e, which is of the group, and the end behind it
-pub ended-behind :
+pub ended_behind :
     (b : List ℕ) (i n : ℕ) (p : Bytes) (e : ℕ) (w : Ending b i n p e) (l : e < n) (f : Bytes) (ef : Sound b → e < count_of b → f ≡ field_of (row_at b e) 0) (z : Bool) (ez : z ≡ equivalent f p) →
     not z ≡ false → (r : ℕ) → EndedBehind b (e + 1) n p r → Ended b i n p r
-ended-behind b i n p e w l f ef z ez t r x = record {
+ended_behind b i n p e w l f ef z ez t r x = record {
   low = omega (arith, w.low, x.low);
   high = λ m y u. omega (arith, x.high);
   is = λ S h k.

@@ -25,7 +25,7 @@ use Rattle.model.proofs.ItemNames.{prefixes_named}
 use Rattle.model.proofs.Walks.{first_le, walk_step, walk_stop, lead_take}
 use Rattle.model.proofs.KeyOrders.{goes_on_less}
 use Rattle.model.proofs.Keys.{number_less}
-use Rattle.model.proofs.Groups.{group-run}
+use Rattle.model.proofs.Groups.{group_run}
 use Rattle.model.proofs.Numbers.{numbered, zero_numbered}
 use Rattle.store.specs.Layout.{slot_count, count_of}
 use Rattle.store.specs.Rows.{row_at, tag_at, field_of}
@@ -135,7 +135,7 @@ module _ (b : List ℕ) (p : Bytes) where
           let d = length-drop f S.items in
           let q = first_le (λ (i : Item). not (before (key_of_item i) (fold p, 0 ∷ []))) S.items in
           omega (arith, x S h, from_is S h);
-      is = λ S h. group-run p S.items h.good.items.sorted ∙ rw (← from_is S h, long S h);
+      is = λ S h. group_run p S.items h.good.items.sorted ∙ rw (← from_is S h, long S h);
       alike = λ S h. rw (long S h) (lead_take (in_group p) (drop f S.items));
     }
 

@@ -13,7 +13,7 @@ use borrow.Author.Tests.{leb-true, leb-false}
 use Rattle.output.specs.Sends.{Sent}
 use Rattle.output.proofs.Sending.{sent_none, sent_more}
 use Rattle.model.specs.Package.{no_item, Item, State, content}
-use Rattle.model.proofs.Contents.{read-piece}
+use Rattle.model.proofs.Contents.{read_piece}
 use Rattle.base.specs.Buffer.{splice}
 use Rattle.store.specs.Layout.{count_of}
 use Rattle.store.specs.Rows.{row_at, field_of}
@@ -80,7 +80,7 @@ module _ (b : List ℕ) (f t offset : ℕ) (out : List ℕ) where
         piece_read S h m =
             let p : piece ≡ (get_or S.items i no_item).bytes = ep h.lies.sound (omega (arith, items_le b S h)) ∙ item_bytes b S h i (omega arith) in
             let r : length out - at - length (drop skip piece) ≡ length out - next = omega (arith, s.next_is, length-take (length out' - at) (drop skip piece)) in
-            rw (run_cons S.items i t l m, ← p, same, el, ← r) (read-piece (length out - at) skip piece (content (run (i + 1) t S.items)))
+            rw (run_cons S.items i t l m, ← p, same, el, ← r) (read_piece (length out - at) skip piece (content (run (i + 1) t S.items)))
 
     -- all of them, or the output is full
     all_copied : ((S : State) → taken S i t skip (length out - at) ≡ []) → Copied b f t offset out at out'

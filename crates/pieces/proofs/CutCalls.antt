@@ -13,7 +13,7 @@ use borrow.Author.Tests.{eq-eqb, ne_eqb, not-true, not-false, lt-ltb, le-ltb, le
 use Rattle.chars.specs.Bytes.{within}
 use Rattle.output.specs.Answers.{answer}
 use Rattle.base.specs.Buffer.{part, splice}
-use Rattle.base.proofs.Writes.{write, within as inside-write, part_all}
+use Rattle.base.proofs.Writes.{write, within as inside_write, part_all}
 use Rattle.names.specs.Names.{part_name}
 use Rattle.names.proofs.Lengths.{name_some, name_few}
 use Rattle.model.specs.Sets.{Bytes}
@@ -148,7 +148,7 @@ unfolding part
 copied l m x p e h k =
     let z : length (take p x) ≡ p = length-take-le p x h in
     let w = write l m 0 p (take p x) e z (omega arith) in
-    inside-write w 0 0 p (omega arith) (omega arith) ∙ part_all p (take p x) z
+    inside_write w 0 0 p (omega arith) (omega arith) ∙ part_all p (take p x) z
 
 module _ (b : List ℕ) (r n p : ℕ) (x s : List ℕ) (ex : Sound b → r < count_of b → x ≡ field_of (row_at b r) 0) (es : Sound b → r < count_of b → s ≡ field_of (row_at b r) 2)
     (ep : p ≡ min (length x) 255) where

@@ -17,12 +17,12 @@ use Rattle.store.proofs.Numbers.{num4_part}
 use Rattle.base.proofs.Bools.{and_both, not_passing}
 
 -- x0, x3, x8, x12, x16, x20 are the numbers as the code has read them, f the format
-pub package-read :
+pub package_read :
     (b : List ℕ) (x0 x3 f x8 x12 x16 x20 : ℕ) → heap_start ≤ length b → x0 ≡ num4 b 0 → x3 ≡ num4 b 3 → f ≡ format_of b → x8 ≡ cap_of b → x12 ≡ count_of b → x16 ≡ used_of b → x20 ≡ end_of b →
     (eqb x0 0x5043504F && eqb x3 0x4B434150 && eqb f package_format && leb x12 slot_count && leb (x8 + heap_start) (length b)
     && leb x8 max_capacity && leb x16 x8 && leb x16 x20 && leb (x20 + heap_start) (length b)) ≡ is_package b
 unfolding is_package is_marked mark num4
-package-read b x0 x3 f x8 x12 x16 x20 h e0 e3 ef e8 e12 e16 e20 = rw (le-leb heap_start (length b) h, e0, e3, ef, e8, e12, e16, e20)
+package_read b x0 x3 f x8 x12 x16 x20 h e0 e3 ef e8 e12 e16 e20 = rw (le-leb heap_start (length b) h, e0, e3, ef, e8, e12, e16, e20)
 
 pub package_short : (b : List ℕ) → length b < heap_start → false ≡ is_package b
 unfolding is_package

@@ -85,6 +85,8 @@ fn gather_each(pkg: &mut [u8], n: usize, e: usize)
 }
 
 // Gathers the rows' bytes at the heap's start, in the order in which they lie. Rows for which no order is confirmed are looked for one by one: so it is with a few.
+// Not inlined, since its arrays would then lie on the stack of every call that may gather.
+#[inline(never)]
 fn compact(pkg: &mut [u8])
     requires { Shape pkg.old }
     ensures { Sound pkg.old → Gathered pkg.old pkg.new }

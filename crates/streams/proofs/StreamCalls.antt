@@ -21,7 +21,7 @@ use Rattle.model.specs.Calls.{Prints, WriteTypes, WriteRelationships, Numbered, 
 use Rattle.model.proofs.Numbers.{source_field_numbered}
 use Rattle.model.proofs.Lists.{slice_map, slice_append}
 use Rattle.model.proofs.Joins.{flat_map_append, flat_map_map}
-use Rattle.model.proofs.Groups.{tilde, source-between}
+use Rattle.model.proofs.Groups.{tilde, source_between}
 use Rattle.store.specs.Rows.{Row, rows_of}
 use Rattle.contract.specs.Rows.{item_row, default_row, override_row, relationship_row, relationship_rows, other_rows, rows_for, second, key_in, row_key}
 use Rattle.contract.specs.Holds.{Holds}
@@ -98,7 +98,7 @@ module _ (b : List ℕ) (S : State) (h : Holds b S) where
         let e : rows_of b ≡ F ++ R S = h.lies.rows ∙ ap (λ (l : List Row). I S ++ l) (sym (append_assoc (D S) (O S) (R S))) ∙ sym (append_assoc (I S) (D S ++ O S) (R S)) in
         rw (relationship_bound s [] f ef, relationship_bound s (tilde ∷ []) t et, e)
         (slice_append F (R S) m n ∙ slice_map relationship_row m n S.relationships
-        ∙ ap (map relationship_row) (sym (source-between s S.relationships h.good.relationships.sorted h.good.relationships.fielded)))
+        ∙ ap (map relationship_row) (sym (source_between s S.relationships h.good.relationships.sorted h.good.relationships.fielded)))
 
     source_stream : stream_of b f t (ascii "<Relationships xmlns=\"http://schemas.openxmlformats.org/package/2006/relationships\">\n") (ascii "</Relationships>\n") ≡ relationships_text s S
     unfolding relationships_text

@@ -1,7 +1,7 @@
 use native.Mathlib.Omega.{arith}
 use Rattle.chars.proofs.FoldedNames.{text_folded, text_equivalent}
 use Rattle.parts.proofs.GroupRuns.{ending_begin, ending_more, ended_stop, ended_end}
-use Rattle.parts.proofs.GroupEnds.{ended-behind}
+use Rattle.parts.proofs.GroupEnds.{ended_behind}
 use mathlib.Core.Bool.{not}
 use mathlib.Core.Path.{ap}
 use Rattle.parts.proofs.runs.group_end.Goals as goal
@@ -28,7 +28,7 @@ pub returns-then-e-i-eq4 : goal.returns-then-e-i-eq4
 returns-then-e-i-eq4 c =
     let loop = c.loop-e in
     let alike = text_equivalent _ c.args.p.now c.requires.holds_folding _ c.folded_text-w.ensures _ _ c.folds_to.ensures in
-    ended-behind _ _ _ _ _ loop.invariant c.loop-e-test.true _ c.field.ensures.2 _ alike (ap not c.if-not-folds_to.false)
+    ended_behind _ _ _ _ _ loop.invariant c.loop-e-test.true _ c.field.ensures.2 _ alike (ap not c.if-not-folds_to.false)
     _ c.end_behind.ensures
 
 pub loop-e-smaller : goal.loop-e-smaller
