@@ -1,5 +1,5 @@
 /*
- * The Zombirels package engine for C: the functions of target/staticlib/libabi.a, which `rt staticlib abi` makes and
+ * The Zombirels package engine for C: the functions of crates/abi/out/libabi.a, which `rt lib` in crates/abi makes and
  * `scripts/install PREFIX` installs as libzombirels.a. A program that uses it is samples/viewer.c.
  *
  * LENDING. A byte string is a pointer and a length. The engine keeps no pointer past its return, allocates nothing and

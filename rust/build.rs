@@ -14,7 +14,7 @@ fn main() {
     let Some(archive) = paths.iter().find(|path| path.is_file()) else {
         let built = paths[1].display();
         fail(&format!(
-            "{built} is missing: run `rt staticlib abi` first\n\
+            "{built} is missing: run `rt lib` in crates/abi first\n\
              note: ZOMBIRELS_LIB may name another folder, with {} or {}",
             NAMES[0], NAMES[1]
         ));
@@ -29,7 +29,7 @@ fn archive_folder() -> PathBuf {
         Some(folder) => PathBuf::from(folder),
         None => {
             let manifest = env::var_os("CARGO_MANIFEST_DIR").unwrap_or_default();
-            PathBuf::from(manifest).join("../target/staticlib")
+            PathBuf::from(manifest).join("../crates/abi/out")
         }
     }
 }

@@ -12,11 +12,11 @@ use std::time::Duration;
 
 /// The program. Without it the tests fail.
 fn program() -> PathBuf {
-    let made = || Path::new(env!("CARGO_MANIFEST_DIR")).join("../target/bin/sheet");
+    let made = || Path::new(env!("CARGO_MANIFEST_DIR")).join("../crates/sheet/out/sheet");
     let program = std::env::var_os("ZOMBIRELS_SHEET").map_or_else(made, PathBuf::from);
     assert!(
         program.is_file(),
-        "{} is missing: run `rt check sheet` first",
+        "{} is missing: run `rt run` in crates/sheet first",
         program.display()
     );
     program

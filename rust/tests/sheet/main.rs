@@ -1,8 +1,8 @@
 //! The program `sheet` beside the second implementation's: the same input must
 //! give the same output, byte for byte.
 //!
-//! `rt check sheet` makes the program; ZOMBIRELS_SHEET may name another file.
-//! ZOMBIRELS_INPUTS sets how many random inputs there are.
+//! `rt run` in crates/sheet makes the program; ZOMBIRELS_SHEET may name another
+//! file. ZOMBIRELS_INPUTS sets how many random inputs there are.
 
 mod corpus;
 mod limits;
