@@ -1,12 +1,11 @@
 use mathlib.Core.Path.{◌≡◌}
-use Prim.Native.Nat.{ℕ, ◌+◌, ◌-◌}
+use Prim.Native.Nat.{ℕ, ◌+◌, ◌-◌, ◌≤◌}
 use native.Mathlib.Omega.{arith}
 use borrow.Author.Rules.{rules}
 use Rattle.store.proofs.Lasting.{no_gap}
 use Rattle.store.proofs.PassedSlots.{pass_enough, pass_used}
 use Rattle.store.proofs.Passed.{passed_on}
 use Rattle.store.proofs.changes.pass_back.Goals as goal
-use Rattle.store.proofs.changes.pass_back.Goals.{After-send-arg-1}
 
 pub returns-then-from-n : goal.returns-then-from-n
 returns-then-from-n c = record { is = λ so en eu last cl pa. absurd (omega (arith, c.if-from-n.true, pass_enough _ _ _ _ _ _ so pa c.number-from.ensures.0 c.number-to.ensures.0)) }
@@ -29,14 +28,12 @@ returns-then-h-e c =
 pub returns-then-h-e-2 : goal.returns-then-h-e-2
 returns-then-h-e-2 c = record { is = λ so en eu last cl pa. absurd (no_gap _ _ _ _ _ _ cl c.get4-e.ensures.0 eu c.heap_size-h.ensures (omega arith) c.if-h-e-2.true) }
 
-pub overflow_sub-s : goal.overflow_sub-s
-overflow_sub-s c = search rules
-
 pub returns : goal.returns
 returns c =
     let a = c.args in
+    let enough : a.n ≤ c.offset.result + c.size.result = search rules in
     let x : ℕ = c.offset.result + c.size.result - a.n in
-    let ends : x + a.n ≡ c.offset.result + c.size.result = omega (arith, overflow_sub-s (goal.at.returns c).After-send-arg-1) in
+    let ends : x + a.n ≡ c.offset.result + c.size.result = omega arith in
     record {
       is = λ so en eu last cl pa. passed_on (record {
         so = so;
@@ -48,7 +45,7 @@ returns c =
         et = c.number-to.ensures.0;
         small = c.number-from.ensures.1;
         ex = omega (arith, ends, c.size.ensures.0, c.offset.ensures.0);
-        hx = omega (arith, overflow_sub-s (goal.at.returns c).After-send-arg-1, c.if-e-s.false);
+        hx = omega (arith, enough, c.if-e-s.false);
         sent = c.send.ensures;
         len = omega arith;
         w1 = c.put4.ensures;

@@ -1,6 +1,5 @@
 use mathlib.Core.Path.{sym, ◌∙◌, ap}
 use native.Mathlib.Omega.{arith}
-use borrow.Author.Tests.{not-false}
 use Rattle.targets.specs.Relationships.{source_part}
 use Rattle.output.proofs.Answering.{answer_refused}
 use Rattle.targets.proofs.Sources.{back_long, back_no}
@@ -20,4 +19,4 @@ returns-then-not-is_reserved c =
 pub source_at-requires : goal.source_at-requires
 source_at-requires c =
     let if1 = c.if-s-gt266 in
-    (sym c.is_reserved.ensures ∙ not-false _ (ap not c.if-not-is_reserved.false), if1.false)
+    (sym c.is_reserved.ensures ∙ c.if-not-is_reserved.false, if1.false)

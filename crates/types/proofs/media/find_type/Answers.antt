@@ -1,6 +1,5 @@
 use mathlib.Core.Path.{refl, ap}
 use native.Mathlib.Omega.{arith}
-use borrow.Author.Tests.{not-true, not-false}
 use Rattle.parts.proofs.GroupRuns.{name_fits, refused_name, refused_none, refused_part}
 use Rattle.types.proofs.TypeLookups.{type_not_found, type_found}
 use mathlib.Core.Bool.{not}
@@ -15,10 +14,10 @@ fold_into-requires c = (name_fits _ _ c.is_part_name.ensures (ap not c.if-not-is
 pub returns-then-not-is_part : goal.returns-then-not-is_part
 returns-then-not-is_part c =
     type_not_found _ _ 13 (λ z. omega arith)
-    (refused_part _ _ _ c.is_part_name.ensures (ap not c.if-not-is_part_name.false) _ c.is_part.ensures (not-true _ (ap not c.if-not-is_part.true)))
+    (refused_part _ _ _ c.is_part_name.ensures (ap not c.if-not-is_part_name.false) _ c.is_part.ensures c.if-not-is_part.true)
 
 pub returns : goal.returns
 returns c =
     type_found _ _
-    (refused_none _ _ _ c.is_part_name.ensures (ap not c.if-not-is_part_name.false) _ c.is_part.ensures (not-false _ (ap not c.if-not-is_part.false)))
+    (refused_none _ _ _ c.is_part_name.ensures (ap not c.if-not-is_part_name.false) _ c.is_part.ensures c.if-not-is_part.false)
     _ c.type_row.ensures
