@@ -5,6 +5,7 @@ use mathlib.Core.Path.{◌≡◌}
 use mathlib.Core.Bool.{Bool}
 use mathlib.Core.List.{List, [], ◌∷◌}
 use Rattle.output.specs.Answers.{answer}
+use Rattle.output.specs.declared.refusals.Refusal.{Refusal}
 use Rattle.names.specs.Items.{item_name, item_refusal}
 use Rattle.names.specs.declared.items.Suffix.{Suffix}
 use Rattle.names.specs.declared.items.Suffix.TheVariants.{Whole, Piece}
@@ -20,5 +21,5 @@ module _ (s : List ℕ) (i : ItemName) (e : i ≡ item_name s) where
       → reply_of (answer 0 (n ∷ t ∷ k ∷ []) []) ≡ reply_of (item_answer (item_name s))
   piece_reply n x k l t f g h = rw (← e, f, g, h)
 
-  pub refused_reply : (k j : ℕ) → i ≡ Refused j → k ≡ item_refusal i → reply_of (answer k (0 ∷ 0 ∷ 0 ∷ []) []) ≡ reply_of (item_answer (item_name s))
-  refused_reply k j f h = rw (h, ← e, f)
+  pub refused_reply : (k : ℕ) (f : Refusal) → i ≡ Refused f → k ≡ item_refusal i → reply_of (answer k (0 ∷ 0 ∷ 0 ∷ []) []) ≡ reply_of (item_answer (item_name s))
+  refused_reply k r f h = rw (h, ← e, f)

@@ -1,13 +1,13 @@
 -- The replies that hand answers to C and Rust, and what the exported functions promise.
 -- Assumes nothing.
 use Rattle.std.specs.Prelude.{ℕ, ◌≡◌, Bool, true, false, List, [], ◌∷◌, length, get_or}
-use Rattle.output.specs.Answers.{Answer, answer}
+use Rattle.output.specs.Answers.{Answer, answer, refusing}
 use Rattle.model.specs.Calls.{Find, View, Totals, Call, Start, Looks, Changes, CutPart, TypeOrigin, Prints, value_count}
 use Rattle.contract.specs.Ran.{Ran}
 use Rattle.items.specs.Spans.{Viewed}
 use Rattle.entries.specs.Promise.{EntryRan}
-use Rattle.chars.specs.declared.folding.Order.{Order}
-use Rattle.chars.specs.declared.folding.Order.TheVariants.{Less, Equal, Greater}
+use Rattle.std.specs.declared.cmp.Ordering.{Ordering}
+use Rattle.std.specs.declared.cmp.Ordering.TheVariants.{Less, Equal, Greater}
 use Rattle.names.specs.declared.items.Suffix.TheVariants.{Whole, Piece}
 use Rattle.names.specs.declared.items.ItemName.{ItemName}
 use Rattle.names.specs.declared.items.ItemName.TheVariants.{Named, Refused}
@@ -54,7 +54,7 @@ pub record ViewReply (name b : List ℕ) (r : Reply) : Type 0 where
   pub reply : r ≡ reply_of (answer 0 (r.first ∷ r.second ∷ []) [])
   pub viewed : Viewed name b r.first r.second
 
-abbrev pub order_number : Order → ℕ
+abbrev pub order_number : Ordering → ℕ
 order_number Less = 0
 order_number Equal = 1
 order_number Greater = 2
@@ -68,4 +68,4 @@ kind false = 1
 abbrev pub item_answer : ItemName → Answer
 item_answer (Named n Whole) = answer 0 (n ∷ 0 ∷ 0 ∷ []) []
 item_answer (Named n (Piece k last)) = answer 0 (n ∷ kind last ∷ k ∷ []) []
-item_answer (Refused k) = answer k (0 ∷ 0 ∷ 0 ∷ []) []
+item_answer (Refused r) = refusing 3 r []

@@ -3,7 +3,7 @@ ghost use Rattle.std.specs.Prelude.{[]};
 ghost use Rattle.model.specs.Calls.{Call, Look, Change, Print};
 ghost use Rattle.abi.specs.Replies.{Replied, ViewReply};
 
-use crate::replies::{Reply, of_cut, of_did, of_found, of_span, of_totalled, of_written};
+use crate::replies::{Reply, of_cut, of_done, of_found, of_span, of_totals, of_written};
 use items::calls::{drop_item, find_item, put_item, start};
 use items::places::view_place;
 use parts::positions::part_at;
@@ -17,21 +17,21 @@ use pieces::joining::join_part;
 pub extern "C" fn opc_start(pkg: &mut [u8], capacity: u64) -> Reply
     ensures { Replied (Call.Start capacity) pkg.old result [] pkg.new }
 {
-    of_did(start(pkg, capacity))
+    of_done(start(pkg, capacity))
 }
 
 #[unsafe(no_mangle)]
 pub extern "C" fn opc_put_item(pkg: &mut [u8], name: &[u8], bytes: &[u8]) -> Reply
     ensures { Replied (Call.Changes (Change.PutItem name.now bytes.now)) pkg.old result [] pkg.new }
 {
-    of_did(put_item(pkg, name, bytes))
+    of_done(put_item(pkg, name, bytes))
 }
 
 #[unsafe(no_mangle)]
 pub extern "C" fn opc_drop_item(pkg: &mut [u8], name: &[u8]) -> Reply
     ensures { Replied (Call.Changes (Change.DropItem name.now)) pkg.old result [] pkg.new }
 {
-    of_did(drop_item(pkg, name))
+    of_done(drop_item(pkg, name))
 }
 
 // The length of an item.
@@ -71,7 +71,7 @@ pub extern "C" fn opc_part_at(pkg: &[u8], position: u64, out: &mut [u8]) -> Repl
 pub extern "C" fn opc_totals(pkg: &[u8]) -> Reply
     ensures { Replied (Call.Looks Look.Totals) pkg.now result [] pkg.now }
 {
-    of_totalled(totals(pkg))
+    of_totals(totals(pkg))
 }
 
 // Cuts a whole part into so many pieces: how many bytes each has, and how many of the first have one more.
@@ -87,5 +87,5 @@ pub extern "C" fn opc_cut_part(pkg: &mut [u8], name: &[u8], pieces: u64) -> Repl
 pub extern "C" fn opc_join_part(pkg: &mut [u8], name: &[u8]) -> Reply
     ensures { Replied (Call.Changes (Change.JoinPart name.now)) pkg.old result [] pkg.new }
 {
-    of_did(join_part(pkg, name))
+    of_done(join_part(pkg, name))
 }

@@ -3,7 +3,7 @@ ghost use Rattle.std.specs.Prelude.{[]};
 ghost use Rattle.model.specs.Calls.{Call, Change, Print};
 ghost use Rattle.abi.specs.Replies.{Replied};
 
-use crate::replies::{Reply, of_did, of_resolution, of_type_origin, of_written};
+use crate::replies::{Reply, of_done, of_resolution, of_type_origin, of_written};
 use relationships::calls::{drop_relationship, put_relationship};
 use relationships::resolving::resolve_relationship;
 use types::calls::{drop_default, drop_override, put_default, put_override};
@@ -14,28 +14,28 @@ use types::origin::type_origin;
 pub extern "C" fn opc_put_default(pkg: &mut [u8], extension: &[u8], media: &[u8]) -> Reply
     ensures { Replied (Call.Changes (Change.PutDefault extension.now media.now)) pkg.old result [] pkg.new }
 {
-    of_did(put_default(pkg, extension, media))
+    of_done(put_default(pkg, extension, media))
 }
 
 #[unsafe(no_mangle)]
 pub extern "C" fn opc_drop_default(pkg: &mut [u8], extension: &[u8]) -> Reply
     ensures { Replied (Call.Changes (Change.DropDefault extension.now)) pkg.old result [] pkg.new }
 {
-    of_did(drop_default(pkg, extension))
+    of_done(drop_default(pkg, extension))
 }
 
 #[unsafe(no_mangle)]
 pub extern "C" fn opc_put_override(pkg: &mut [u8], name: &[u8], media: &[u8]) -> Reply
     ensures { Replied (Call.Changes (Change.PutOverride name.now media.now)) pkg.old result [] pkg.new }
 {
-    of_did(put_override(pkg, name, media))
+    of_done(put_override(pkg, name, media))
 }
 
 #[unsafe(no_mangle)]
 pub extern "C" fn opc_drop_override(pkg: &mut [u8], name: &[u8]) -> Reply
     ensures { Replied (Call.Changes (Change.DropOverride name.now)) pkg.old result [] pkg.new }
 {
-    of_did(drop_override(pkg, name))
+    of_done(drop_override(pkg, name))
 }
 
 // The media type of a part: its Override's, else that of the Default of its extension.
@@ -66,14 +66,14 @@ pub extern "C" fn opc_put_relationship(
 ) -> Reply
     ensures { Replied (Call.Changes (Change.PutRelationship source.now id.now kind.now mode target.now)) pkg.old result [] pkg.new }
 {
-    of_did(put_relationship(pkg, source, id, kind, mode, target))
+    of_done(put_relationship(pkg, source, id, kind, mode, target))
 }
 
 #[unsafe(no_mangle)]
 pub extern "C" fn opc_drop_relationship(pkg: &mut [u8], source: &[u8], id: &[u8]) -> Reply
     ensures { Replied (Call.Changes (Change.DropRelationship source.now id.now)) pkg.old result [] pkg.new }
 {
-    of_did(drop_relationship(pkg, source, id))
+    of_done(drop_relationship(pkg, source, id))
 }
 
 // The length of the IRI that a relationship leads to, its mode, and 1 if the part is held.

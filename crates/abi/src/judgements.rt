@@ -7,12 +7,13 @@ ghost use Rattle.names.specs.Types.{media_type, extension, identifier};
 ghost use Rattle.names.specs.Iris.{iri, package_iri};
 ghost use Rattle.abi.specs.Replies.{reply_of, order_number, kind, item_answer};
 
-use crate::replies::{Reply, three};
-use chars::folding::{Order, compare_folded, is_derivable, is_equivalent};
+use crate::replies::{Reply, of_refusal, three};
+use chars::folding::{compare_folded, is_derivable, is_equivalent};
 use names::iris::{is_iri, is_package_iri};
 use names::items::{ItemName, Suffix, refusal, take_apart};
 use names::parts::{extension_at, is_part_name, is_reserved};
 use names::types::{is_extension, is_id, is_media_type};
+use std::cmp::Ordering;
 
 #[unsafe(no_mangle)]
 pub extern "C" fn opc_is_part_name(s: &[u8]) -> bool
@@ -55,9 +56,9 @@ pub extern "C" fn opc_compare_folded(a: &[u8], b: &[u8]) -> u8
     ensures { result ≡ order_number (folded_order a.now b.now) }
 {
     match compare_folded(a, b) {
-        Order::Less => 0,
-        Order::Equal => 1,
-        Order::Greater => 2,
+        Ordering::Less => 0,
+        Ordering::Equal => 1,
+        Ordering::Greater => 2,
     }
 }
 
@@ -74,7 +75,7 @@ pub extern "C" fn opc_take_apart(s: &[u8]) -> Reply
 {
     let name = take_apart(s);
     let ItemName::Named(n, x) = name else {
-        return three(refusal(name), 0, 0, 0);
+        return of_refusal(3, refusal(name).unwrap());
     };
     let Suffix::Piece(k, last) = x else {
         return three(0, n, 0, 0);

@@ -1,17 +1,17 @@
 // The answer that every call hands to C and Rust, and how the engine's answers become it.
-ghost use Rattle.std.specs.Prelude.{◌≡◌, List, [], ◌∷◌, ℕ};
-ghost use Rattle.output.specs.Answers.{answer, unanswered, of_written};
+ghost use Rattle.std.specs.Prelude.{◌≡◌, ◌≤◌, List, [], ◌∷◌, ℕ, Ok};
+ghost use Rattle.output.specs.Answers.{answer, refusing, failing, of_written};
 ghost use Rattle.pack.specs.Pack.{of_resolved};
 ghost use Rattle.model.specs.Calls.{flag as flagOf};
-ghost use Rattle.contract.specs.Answers.{of_did, of_cut, of_found, of_totalled};
+ghost use Rattle.contract.specs.Answers.{of_done, of_cut, of_found, of_totals};
 ghost use Rattle.relationships.specs.Resolutions.{of_resolution};
 ghost use Rattle.entries.specs.Promise.{of_entry_field};
 ghost use Rattle.types.specs.TypeOrigins.{of_type_origin};
 ghost use Rattle.abi.specs.Replies.{reply_of, HandsOver};
 
-use contract::answers::{Cut, Did, Found, Totalled};
+use contract::answers::{Cut, Totals};
 use entries::listing::EntryField;
-use output::writing::Written;
+use output::refusals::{Refusal, Unwritten};
 use pack::pack::Resolved;
 use relationships::resolving::Resolution;
 use store::rows::Span;
@@ -58,85 +58,103 @@ pub(crate) fn three(n: u8, first: usize, second: usize, third: usize) -> Reply
     of_values(n, 3, first, second, third)
 }
 
-pub(crate) fn of_written(w: Written) -> Reply
-    ensures { (out : List ℕ) → (of_written w out ≡ unanswered → ⊥) → HandsOver (of_written w out) 1 result out }
+// A refusal of a call that answers so many values: they are all 0.
+pub(crate) fn of_refusal(count: u64, r: Refusal) -> Reply
+    ensures { (out : List ℕ) → HandsOver (refusing count r out) count result out }
 {
-    match w {
-        Written::Bytes(n) => one(0, n),
-        Written::Short(n) => one(3, n),
-        Written::Refused(k) => one(k, 0),
+    of_values(r.number(), count, 0, 0, 0)
+}
+
+// The same of a call that writes: where its output is too short, the first value is the length that is needed.
+fn of_unwritten(count: u64, u: Unwritten) -> Reply
+    requires { 1 ≤ count }
+    ensures { (out : List ℕ) → HandsOver (failing count u out) count result out }
+{
+    match u {
+        Unwritten::TooShort(n) => of_values(3, count, n, 0, 0),
+        Unwritten::Refused(r) => of_refusal(count, r),
     }
 }
 
-pub(crate) fn of_resolved(w: Resolved) -> Reply
-    ensures { (out : List ℕ) → (of_resolved w out ≡ unanswered → ⊥) → HandsOver (of_resolved w out) 2 result out }
+pub(crate) fn of_written(w: Result<usize, Unwritten>) -> Reply
+    ensures { (out : List ℕ) → HandsOver (of_written w out) 1 result out }
 {
     match w {
-        Resolved::Found(a, b) => two(0, a, b),
-        Resolved::Short(n) => two(3, n, 0),
-        Resolved::Refused(k) => two(k, 0, 0),
+        Ok(n) => one(0, n),
+        Err(u) => of_unwritten(1, u),
     }
 }
 
-pub(crate) fn of_type_origin(w: TypeOrigin) -> Reply
-    ensures { (out : List ℕ) → (of_type_origin w out ≡ unanswered → ⊥) → HandsOver (of_type_origin w out) 2 result out }
+pub(crate) fn of_resolved(w: Result<Resolved, Unwritten>) -> Reply
+    ensures { (out : List ℕ) → HandsOver (of_resolved w out) 2 result out }
 {
     match w {
+        Ok(found) => two(0, found.package, found.part),
+        Err(u) => of_unwritten(2, u),
+    }
+}
+
+fn of_origin(origin: TypeOrigin) -> Reply
+    ensures { (out : List ℕ) → HandsOver (of_type_origin (Ok origin) out) 2 result out }
+{
+    match origin {
         TypeOrigin::Override(n) => two(0, 2, n),
         TypeOrigin::Default(n) => two(0, 1, n),
         TypeOrigin::Neither => two(0, 0, 0),
-        TypeOrigin::Short(n) => two(3, n, 0),
-        TypeOrigin::Refused(k) => two(k, 0, 0),
     }
 }
 
-pub(crate) fn of_entry_field(w: EntryField) -> Reply
-    ensures { (out : List ℕ) → (of_entry_field w out ≡ unanswered → ⊥) → HandsOver (of_entry_field w out) 2 result out }
+pub(crate) fn of_type_origin(w: Result<TypeOrigin, Unwritten>) -> Reply
+    ensures { (out : List ℕ) → HandsOver (of_type_origin w out) 2 result out }
 {
     match w {
-        EntryField::Copied { length, entries } => two(0, length, entries),
-        EntryField::Short(n) => two(3, n, 0),
-        EntryField::Refused(k) => two(k, 0, 0),
+        Ok(origin) => of_origin(origin),
+        Err(u) => of_unwritten(2, u),
     }
 }
 
-pub(crate) fn of_did(d: Did) -> Reply
-    ensures { (of_did d ≡ unanswered → ⊥) → HandsOver (of_did d) 1 result [] }
+pub(crate) fn of_entry_field(w: Result<EntryField, Unwritten>) -> Reply
+    ensures { (out : List ℕ) → HandsOver (of_entry_field w out) 2 result out }
 {
-    match d {
-        Did::Done => one(0, 0),
-        Did::Refused(k) => one(k, 0),
+    match w {
+        Ok(copied) => two(0, copied.length, copied.entries),
+        Err(u) => of_unwritten(2, u),
     }
 }
 
-pub(crate) fn of_cut(d: Cut) -> Reply
-    ensures { (of_cut d ≡ unanswered → ⊥) → HandsOver (of_cut d) 2 result [] }
+pub(crate) fn of_done(d: Result<(), Refusal>) -> Reply
+    ensures { HandsOver (of_done d) 1 result [] }
 {
     match d {
-        Cut::Into(q, r) => two(0, q, r),
-        Cut::Refused(k) => two(k, 0, 0),
+        Ok(()) => one(0, 0),
+        Err(r) => of_refusal(1, r),
     }
 }
 
-pub(crate) fn of_found(d: Found) -> Reply
-    ensures { (of_found d ≡ unanswered → ⊥) → HandsOver (of_found d) 1 result [] }
+pub(crate) fn of_cut(d: Result<Cut, Refusal>) -> Reply
+    ensures { HandsOver (of_cut d) 2 result [] }
 {
     match d {
-        Found::Length(n) => one(0, n),
-        Found::Refused(k) => one(k, 0),
+        Ok(cut) => two(0, cut.size, cut.rest),
+        Err(r) => of_refusal(2, r),
     }
 }
 
-pub(crate) fn of_totalled(d: Totalled) -> Reply
-    ensures { (of_totalled d ≡ unanswered → ⊥) → HandsOver (of_totalled d) 3 result [] }
+pub(crate) fn of_found(d: Result<usize, Refusal>) -> Reply
+    ensures { HandsOver (of_found d) 1 result [] }
 {
     match d {
-        Totalled::Of {
-            items,
-            parts,
-            charge,
-        } => three(0, items, parts, charge),
-        Totalled::Refused(k) => three(k, 0, 0, 0),
+        Ok(n) => one(0, n),
+        Err(r) => of_refusal(1, r),
+    }
+}
+
+pub(crate) fn of_totals(d: Result<Totals, Refusal>) -> Reply
+    ensures { HandsOver (of_totals d) 3 result [] }
+{
+    match d {
+        Ok(all) => three(0, all.items, all.parts, all.charge),
+        Err(r) => of_refusal(3, r),
     }
 }
 
@@ -152,13 +170,20 @@ fn flag(b: bool) -> usize
     if b { 1 } else { 0 }
 }
 
-pub(crate) fn of_resolution(w: Resolution) -> Reply
-    ensures { (out : List ℕ) → (of_resolution w out ≡ unanswered → ⊥) → HandsOver (of_resolution w out) 3 result out }
+fn of_led(led: Resolution) -> Reply
+    ensures { (out : List ℕ) → HandsOver (of_resolution (Ok led) out) 3 result out }
 {
-    match w {
+    match led {
         Resolution::Internal { length, held } => three(0, length, 0, flag(held)),
         Resolution::External { length } => three(0, length, 1, 0),
-        Resolution::Short(n) => three(3, n, 0, 0),
-        Resolution::Refused(k) => three(k, 0, 0, 0),
+    }
+}
+
+pub(crate) fn of_resolution(w: Result<Resolution, Unwritten>) -> Reply
+    ensures { (out : List ℕ) → HandsOver (of_resolution w out) 3 result out }
+{
+    match w {
+        Ok(led) => of_led(led),
+        Err(u) => of_unwritten(3, u),
     }
 }

@@ -7,7 +7,8 @@ ghost use Rattle.abi.specs.Turns.{Turned};
 
 use crate::making::make;
 use crate::replies::{Reply, one, three};
-use script::heads::{HEAD_SIZE, Head, Next, next_call};
+use output::refusals::Refusal;
+use script::heads::{HEAD_SIZE, Head, next_call};
 use script::numbers::put8;
 
 // How many bytes a reply has.
@@ -69,21 +70,19 @@ fn make_next(pkg: &mut [u8], s: &[u8], h: Head, out: &mut [u8]) -> Turn
 fn take_turn(pkg: &mut [u8], s: &[u8], out: &mut [u8]) -> Turn
     ensures { Turned s.now pkg.old out.old result.read result.written pkg.new out.new }
 {
-    match next_call(s) {
-        Next::Call(h) => make_next(pkg, s, h, out),
-        Next::Nothing => {
-            if out.len() < REPLY_SIZE {
-                return Turn {
-                    read: 0,
-                    written: 0,
-                };
-            }
-            put_reply(out, one(16, 0));
-            Turn {
-                read: 0,
-                written: REPLY_SIZE,
-            }
-        }
+    if let Some(h) = next_call(s) {
+        return make_next(pkg, s, h, out);
+    }
+    if out.len() < REPLY_SIZE {
+        return Turn {
+            read: 0,
+            written: 0,
+        };
+    }
+    put_reply(out, one(Refusal::UnreadableLine.number(), 0));
+    Turn {
+        read: 0,
+        written: REPLY_SIZE,
     }
 }
 

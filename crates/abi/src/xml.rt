@@ -3,7 +3,7 @@ ghost use Rattle.std.specs.Prelude.{[]};
 ghost use Rattle.model.specs.Calls.{Call, Change, Print};
 ghost use Rattle.abi.specs.Replies.{Replied};
 
-use crate::replies::{Reply, of_did, of_written};
+use crate::replies::{Reply, of_done, of_written};
 use reading::calls::{read_relationships, read_types};
 use streams::calls::{write_relationships, write_types};
 
@@ -26,7 +26,7 @@ pub extern "C" fn opc_write_relationships(pkg: &[u8], source: &[u8], out: &mut [
 pub extern "C" fn opc_read_types(pkg: &mut [u8], stream: &[u8]) -> Reply
     ensures { Replied (Call.Changes (Change.ReadTypes stream.now)) pkg.old result [] pkg.new }
 {
-    of_did(read_types(pkg, stream))
+    of_done(read_types(pkg, stream))
 }
 
 // All entries of a stream of relationships are put in as those of the source, or none.
@@ -34,5 +34,5 @@ pub extern "C" fn opc_read_types(pkg: &mut [u8], stream: &[u8]) -> Reply
 pub extern "C" fn opc_read_relationships(pkg: &mut [u8], source: &[u8], stream: &[u8]) -> Reply
     ensures { Replied (Call.Changes (Change.ReadRelationships source.now stream.now)) pkg.old result [] pkg.new }
 {
-    of_did(read_relationships(pkg, source, stream))
+    of_done(read_relationships(pkg, source, stream))
 }

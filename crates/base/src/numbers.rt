@@ -4,8 +4,5 @@ ghost use Rattle.std.specs.Prelude.{◌≡◌, min, ◌≤◌};
 pub fn smaller(a: usize, b: usize) -> usize
     ensures { (result ≡ min a b) × (result ≤ a) × (result ≤ b) }
 {
-    if a <= b {
-        return a;
-    }
-    b
+    a.min(b)
 }

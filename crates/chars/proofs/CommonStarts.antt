@@ -12,7 +12,7 @@ use borrow.Author.Tests.{eq-eqb, ne_eqb, eqb-true, lt-ltb, le-ltb, ltb-false, lt
 use Rattle.chars.specs.Lists.{same}
 use Rattle.chars.specs.Folding.{order}
 use Rattle.chars.specs.FoldedNames.{common}
-use Rattle.chars.specs.declared.folding.Order.TheVariants.{Less, Equal, Greater}
+use Rattle.std.specs.declared.cmp.Ordering.TheVariants.{Less, Equal, Greater}
 use Rattle.chars.proofs.Equivalence.{same_eq, eq_same}
 
 pub common_append : (t u v : List ℕ) → common (t ++ u) (t ++ v) ≡ length t + common u v
@@ -162,7 +162,7 @@ module _ (x y : List ℕ) (c : ℕ) (e : c ≡ common x y) where
     unfolding order
     past_less l = sym (order_behind ∙ rw (drop-cons x c 0 h, drop-cons y c 0 k, lt-ltb (get_or x c 0) (get_or y c 0) l))
 
-    apart : get_or x c 0 ≡ get_or y c 0 → ⊥
+    pub apart : get_or x c 0 ≡ get_or y c 0 → ⊥
     apart f = let n = common_next x y c (omega arith) h k f in omega arith
 
     pub past_greater : get_or y c 0 ≤ get_or x c 0 → Greater ≡ order x y

@@ -1,19 +1,21 @@
 -- Two texts compared side by side, at the position i.
 -- Assumes nothing.
-use mathlib.Core.Path.{◌≡◌, refl, ap, ◌∙◌}
-use mathlib.Core.Bool.{Bool, true, false, ◌&&◌, cond}
+use mathlib.Core.Path.{◌≡◌, refl, ap, sym, ◌∙◌}
+use mathlib.Core.Bool.{Bool, true, false, ◌&&◌, false≢true, true≢false}
 use mathlib.Core.List.{List, [], ◌∷◌, map}
-use Prim.Native.Nat.{ℕ, suc, ◌+◌, ◌≤◌, ◌<◌}
+use Prim.Native.Nat.{ℕ, suc, ◌+◌, ◌≤◌, ◌<◌, min}
 use native.Mathlib.Numerals.{add-one}
-use native.Mathlib.Omega.{arith}
-use lib.Dec.{eqb, ltb}
+use native.Mathlib.Omega.{arith, min_cases}
+use lib.Dec.{eqb}
 use lib.ListN.{length, drop, get_or, drop_of_length-le}
 use lib.Seq.{drop-cons}
-use borrow.Author.Tests.{lt-ltb, le-ltb, ne_eqb}
+use borrow.Author.Tests.{lt-ltb, le-ltb}
+use Rattle.std.specs.declared.cmp.Ordering.{Ordering}
+use Rattle.std.specs.declared.cmp.Ordering.TheVariants.{Less, Equal, Greater}
+use Rattle.std.specs.Ordering.{is_ne, nat_cmp, ordering_then}
+use Rattle.std.proofs.lemmas.Cmp.{ranked, by_ranked}
 use Rattle.chars.specs.Lists.{same}
 use Rattle.chars.specs.Folding.{lower, equivalent, order}
-use Rattle.chars.specs.Comparing.{byte_order}
-use Rattle.chars.specs.declared.folding.Order.TheVariants.{Less, Equal, Greater}
 
 pub lengths_differ : (a b : List ℕ) → (length a ≡ length b → ⊥) → equivalent a b ≡ false
 unfolding equivalent same
@@ -37,46 +39,37 @@ module _ (a b : List ℕ) (i : ℕ) where
   unfolding equivalent same
   equivalent_end h g = rw (drop_of_length-le a h, drop_of_length-le b g)
 
--- two bytes
-pub byte_order_same : (p q : ℕ) → p ≡ q → 1 ≡ byte_order p q
-unfolding byte_order
-byte_order_same p q e = rw (e, le-ltb q q (omega arith))
+-- the first order decides where it tells two apart
+then_first : (o p : Ordering) → is_ne o ≡ true → o ≡ ordering_then o p
+then_first Less p z = refl
+then_first Equal p z = absurd (false≢true z)
+then_first Greater p z = refl
 
-module _ (p q x y : ℕ) (ex : x ≡ p) (ey : y ≡ q) where
-  pub byte_order_less : x < y → 0 ≡ byte_order p q
-  unfolding byte_order
-  byte_order_less h = rw (← ex, ← ey, lt-ltb x y h)
-
-  pub byte_order_greater : y ≤ x → y < x → 2 ≡ byte_order p q
-  unfolding byte_order
-  byte_order_greater h g = rw (← ex, ← ey, le-ltb x y h, lt-ltb y x g)
-
-  pub byte_order_equal : y ≤ x → x ≤ y → 1 ≡ byte_order p q
-  unfolding byte_order
-  byte_order_equal h g = rw (← ex, ← ey, le-ltb x y h, le-ltb y x g)
+then_second : (o p : Ordering) → is_ne o ≡ false → ordering_then o p ≡ p
+then_second Less p z = absurd (true≢false z)
+then_second Equal p z = refl
+then_second Greater p z = absurd (true≢false z)
 
 -- the order of two texts under a map of their bytes
 module _ (f : ℕ → ℕ) (a b : List ℕ) (i : ℕ) where
   -- o tells how the bytes at i stand to each other, mapped
-  module _ (o : ℕ) (h : i < length a) (g : i < length b) (e : o ≡ byte_order (f (get_or a i 0)) (f (get_or b i 0))) where
-    order_at : order (map f (drop i a)) (map f (drop i b)) ≡ cond (eqb o 0) Less (cond (eqb o 2) Greater (order (map f (drop (i + 1) a)) (map f (drop (i + 1) b))))
-    unfolding order byte_order
-    order_at = rw (add-one, drop-cons a i 0 h, drop-cons b i 0 g, e) (go (ltb (f (get_or a i 0)) (f (get_or b i 0))) (ltb (f (get_or b i 0)) (f (get_or a i 0))))
-      where
-        go : (p q : Bool) → cond p Less (cond q Greater (order (map f (drop (suc i) a)) (map f (drop (suc i) b))))
-            ≡ cond (eqb (cond p 0 (cond q 2 1)) 0) Less (cond (eqb (cond p 0 (cond q 2 1)) 2) Greater (order (map f (drop (suc i) a)) (map f (drop (suc i) b))))
-        go true q = refl
-        go false true = refl
-        go false false = refl
+  module _ (o : Ordering) (h : i < length a) (g : i < length b) (e : o ≡ nat_cmp (f (get_or a i 0)) (f (get_or b i 0))) where
+    order_at : order (map f (drop i a)) (map f (drop i b)) ≡ ordering_then o (order (map f (drop (i + 1) a)) (map f (drop (i + 1) b)))
+    unfolding order
+    order_at =
+        let x = f (get_or a i 0) in
+        let y = f (get_or b i 0) in
+        rw (add-one, drop-cons a i 0 h, drop-cons b i 0 g)
+        (by_ranked (x < y) (x ≡ y) (y < x) o (ranked x y o e)
+        (λ z l. rw (z, lt-ltb x y l))
+        (λ z l. rw (z, l, le-ltb y y (omega arith)))
+        (λ z l. rw (z, le-ltb x y (omega arith), lt-ltb y x l)))
 
-    pub order_less_at : o ≡ 0 → order (map f (drop i a)) (map f (drop i b)) ≡ Less
-    order_less_at z = order_at ∙ rw z
+    pub order_differs : is_ne o ≡ true → o ≡ order (map f (drop i a)) (map f (drop i b))
+    order_differs z = then_first o _ z ∙ sym order_at
 
-    pub order_greater_at : o ≡ 2 → order (map f (drop i a)) (map f (drop i b)) ≡ Greater
-    order_greater_at z = order_at ∙ rw z
-
-    pub order_next : (o ≡ 0 → ⊥) → (o ≡ 2 → ⊥) → order (map f (drop i a)) (map f (drop i b)) ≡ order (map f (drop (i + 1) a)) (map f (drop (i + 1) b))
-    order_next y z = order_at ∙ rw (ne_eqb o 0 y, ne_eqb o 2 z)
+    pub order_next : is_ne o ≡ false → order (map f (drop i a)) (map f (drop i b)) ≡ order (map f (drop (i + 1) a)) (map f (drop (i + 1) b))
+    order_next z = order_at ∙ then_second o _ z
 
   pub order_end : length a ≤ i → length b ≤ i → order (map f (drop i a)) (map f (drop i b)) ≡ Equal
   unfolding order
@@ -90,6 +83,11 @@ module _ (f : ℕ → ℕ) (a b : List ℕ) (i : ℕ) where
   unfolding order
   order_longer h g = rw (drop-cons a i 0 h, drop_of_length-le b g)
 
-pub map_id : (s : List ℕ) → map (λ (x : ℕ). x) s ≡ s
-map_id [] = refl
-map_id (x ∷ s) = ap (λ (t : List ℕ). x ∷ t) (map_id s)
+  -- o tells how long they are, and one of them ends at i
+  pub order_ends : i ≤ length a → i ≤ length b → min (length a) (length b) ≤ i → (o : Ordering) → o ≡ nat_cmp (length a) (length b)
+      → order (map f (drop i a)) (map f (drop i b)) ≡ o
+  order_ends h g m o e =
+      by_ranked (length a < length b) (length a ≡ length b) (length b < length a) o (ranked (length a) (length b) o e)
+      (λ z l. order_shorter (omega (arith, min_cases)) (omega (arith, min_cases)) ∙ sym z)
+      (λ z l. order_end (omega (arith, min_cases)) (omega (arith, min_cases)) ∙ sym z)
+      (λ z l. order_longer (omega (arith, min_cases)) (omega (arith, min_cases)) ∙ sym z)

@@ -8,7 +8,7 @@ use lib.Dec.{eqb}
 use borrow.Author.Tests.{eqb-true, eq-eqb}
 use Rattle.chars.specs.Lists.{same}
 use Rattle.chars.specs.Folding.{fold, equivalent, folded_order}
-use Rattle.chars.specs.declared.folding.Order.TheVariants.{Less, Equal, Greater}
+use Rattle.std.specs.declared.cmp.Ordering.TheVariants.{Less, Equal, Greater}
 use Rattle.chars.proofs.Orders.{order_refl, order_equal, order_less, order_greater, order_trans}
 
 pub same_eq : (a b : List ℕ) → same a b ≡ true → a ≡ b

@@ -1,5 +1,6 @@
 pub mod Tables
 pub mod Classes
+pub mod Lowering
 pub mod Searches
 pub mod Splits
 pub mod Tiles

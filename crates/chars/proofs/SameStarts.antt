@@ -1,93 +1,77 @@
 -- The same bytes at the beginning of two texts.
 -- Assumes nothing.
-use mathlib.Core.Path.{◌≡◌, refl, sym, ap, ◌∙◌}
-use mathlib.Core.Bool.{Bool, true, false, ◌&&◌}
+use mathlib.Core.Path.{◌≡◌, refl, sym, ap, ap₂, ◌∙◌}
+use mathlib.Core.Bool.{Bool, true, false, ◌&&◌, ◌||◌}
 use mathlib.Core.List.{List, [], ◌∷◌, map, map-append}
 use Prim.Native.Nat.{ℕ, zero, suc, ◌+◌, ◌≤◌, ◌<◌}
+use native.Mathlib.Numerals.{add-one}
 use native.Mathlib.Omega.{arith}
 use lib.Dec.{eqb}
-use lib.ListN.{length, take, drop, get_or}
-use lib.Seq.{drop-cons, take-add}
+use lib.ListN.{length, take, drop, get_or, length-drop}
+use lib.Seq.{take-add, get_or-drop}
 use borrow.Author.Tests.{le-ltb, eq-eqb}
 use Rattle.chars.specs.Lists.{same, every}
 use Rattle.chars.specs.Folding.{lower, fold, equivalent, order}
-use Rattle.chars.specs.Comparing.{in_case, same_eight}
-use Rattle.chars.proofs.Equivalence.{same_eq, same_refl}
+use Rattle.chars.specs.Comparing.{as_is, same_eight}
+use Rattle.base.proofs.Bools.{and_right_true, and_assoc}
+use Rattle.chars.proofs.Equivalence.{same_eq}
 
-module _ (s : List ℕ) where
-  take_drop_suc : (n i j : ℕ) → suc i ≡ j → i < length s → take (suc n) (drop i s) ≡ get_or s i 0 ∷ take n (drop j s)
-  take_drop_suc n i j e h = rw (drop-cons s i 0 h, e)
-
-  pub take_eight : (i : ℕ) → i + 8 ≤ length s → take 8 (drop i s)
-      ≡ get_or s i 0 ∷ get_or s (i + 1) 0 ∷ get_or s (i + 2) 0 ∷ get_or s (i + 3) 0 ∷ get_or s (i + 4) 0 ∷ get_or s (i + 5) 0 ∷ get_or s (i + 6) 0 ∷ get_or s (i + 7) 0 ∷ []
-  take_eight i h =
-      rw (
-        take_drop_suc 7 i (i + 1) (omega arith) (omega arith),
-        take_drop_suc 6 (i + 1) (i + 2) (omega arith) (omega arith),
-        take_drop_suc 5 (i + 2) (i + 3) (omega arith) (omega arith),
-        take_drop_suc 4 (i + 3) (i + 4) (omega arith) (omega arith),
-        take_drop_suc 3 (i + 4) (i + 5) (omega arith) (omega arith),
-        take_drop_suc 2 (i + 5) (i + 6) (omega arith) (omega arith),
-        take_drop_suc 1 (i + 6) (i + 7) (omega arith) (omega arith),
-        take_drop_suc 0 (i + 7) (i + 8) (omega arith) (omega arith),
-      )
-
-all_eight : (p q r s t u v w : Bool) → (((((((p && q) && r) && s) && t) && u) && v) && w) ≡ (p && (q && (r && (s && (t && (u && (v && (w && true))))))))
-all_eight false q r s t u v w = refl
-all_eight true false r s t u v w = refl
-all_eight true true false s t u v w = refl
-all_eight true true true false t u v w = refl
-all_eight true true true true false u v w = refl
-all_eight true true true true true false v w = refl
-all_eight true true true true true true false w = refl
-all_eight true true true true true true true true = refl
-all_eight true true true true true true true false = refl
-
--- the tests of eight bytes of a text
-pub every_eight : (p : ℕ → Bool) (s : List ℕ) (i : ℕ) → i + 8 ≤ length s → (t0 t1 t2 t3 t4 t5 t6 t7 : Bool)
-    → t0 ≡ p (get_or s i 0)
-    → t1 ≡ p (get_or s (i + 1) 0)
-    → t2 ≡ p (get_or s (i + 2) 0)
-    → t3 ≡ p (get_or s (i + 3) 0)
-    → t4 ≡ p (get_or s (i + 4) 0)
-    → t5 ≡ p (get_or s (i + 5) 0)
-    → t6 ≡ p (get_or s (i + 6) 0)
-    → t7 ≡ p (get_or s (i + 7) 0)
-    → (((((((t0 && t1) && t2) && t3) && t4) && t5) && t6) && t7) ≡ every p (take 8 (drop i s))
+-- one byte more
+pub every_next : (p : ℕ → Bool) (s : List ℕ) (k : ℕ) → k < length s → every p (take (suc k) s) ≡ every p (take k s) && p (get_or s k 0)
 unfolding every
-every_eight p s i h t0 t1 t2 t3 t4 t5 t6 t7 e0 e1 e2 e3 e4 e5 e6 e7 =
-    all_eight t0 t1 t2 t3 t4 t5 t6 t7 ∙ rw (take_eight s i h, e0, e1, e2, e3, e4, e5, e6, e7)
+every_next p [] k h = absurd (omega arith)
+every_next p (x ∷ s) zero h = and_right_true (p x)
+every_next p (x ∷ s) (suc k) h = ap (λ (t : Bool). p x && t) (every_next p s k (omega arith)) ∙ sym (and_assoc (p x) (every p (take k s)) (p (get_or s k 0)))
 
--- the tests of eight bytes of two texts, each read by its own function
-module _ (f g : ℕ → ℕ) (a b : List ℕ) (i : ℕ) (h : i + 8 ≤ length a) (k : i + 8 ≤ length b) where
-  pub same_eight_lem : (t0 t1 t2 t3 t4 t5 t6 t7 : Bool)
-      → t0 ≡ eqb (f (get_or a i 0)) (g (get_or b i 0))
-      → t1 ≡ eqb (f (get_or a (i + 1) 0)) (g (get_or b (i + 1) 0))
-      → t2 ≡ eqb (f (get_or a (i + 2) 0)) (g (get_or b (i + 2) 0))
-      → t3 ≡ eqb (f (get_or a (i + 3) 0)) (g (get_or b (i + 3) 0))
-      → t4 ≡ eqb (f (get_or a (i + 4) 0)) (g (get_or b (i + 4) 0))
-      → t5 ≡ eqb (f (get_or a (i + 5) 0)) (g (get_or b (i + 5) 0))
-      → t6 ≡ eqb (f (get_or a (i + 6) 0)) (g (get_or b (i + 6) 0))
-      → t7 ≡ eqb (f (get_or a (i + 7) 0)) (g (get_or b (i + 7) 0))
-      → (((((((t0 && t1) && t2) && t3) && t4) && t5) && t6) && t7) ≡ same (map f (take 8 (drop i a))) (map g (take 8 (drop i b)))
-  unfolding same
-  same_eight_lem t0 t1 t2 t3 t4 t5 t6 t7 e0 e1 e2 e3 e4 e5 e6 e7 =
-      all_eight t0 t1 t2 t3 t4 t5 t6 t7 ∙ rw (take_eight a i h, take_eight b i k, e0, e1, e2, e3, e4, e5, e6, e7)
+pub same_next : (f g : ℕ → ℕ) (a b : List ℕ) (k : ℕ) → k < length a → k < length b →
+    same (map f (take (suc k) a)) (map g (take (suc k) b)) ≡ same (map f (take k a)) (map g (take k b)) && eqb (f (get_or a k 0)) (g (get_or b k 0))
+unfolding same
+same_next f g [] b k h m = absurd (omega arith)
+same_next f g (x ∷ a) [] k h m = absurd (omega arith)
+same_next f g (x ∷ a) (y ∷ b) zero h m = and_right_true (eqb (f x) (g y))
+same_next f g (x ∷ a) (y ∷ b) (suc k) h m =
+    ap (λ (t : Bool). eqb (f x) (g y) && t) (same_next f g a b k (omega arith) (omega arith))
+    ∙ sym (and_assoc (eqb (f x) (g y)) (same (map f (take k a)) (map g (take k b))) (eqb (f (get_or a k 0)) (g (get_or b k 0))))
 
-pub map_plain : (l : List ℕ) → map (in_case false) l ≡ l
-map_plain [] = refl
-map_plain (x ∷ l) = ap (λ (t : List ℕ). x ∷ t) (map_plain l)
+-- the first k of eight bytes
+pub every_eight : (p : ℕ → Bool) (s : List ℕ) (i k : ℕ) → i + 8 ≤ length s → k < 8 → (t z : Bool) → t ≡ every p (take k (drop i s)) → z ≡ p (get_or s (i + k) 0)
+    → (t && z) ≡ every p (take (k + 1) (drop i s))
+every_eight p s i k h l t z e ez = rw add-one (
+    ap₂ ◌&&◌ e (ez ∙ ap p (sym (get_or-drop i s k 0))) ∙ sym (every_next p (drop i s) k (omega (arith, length-drop i s))))
 
--- what is the same as it stands is the same folded
-pub same_eight_plain : (c : Bool) (a b : List ℕ) (i : ℕ) → same_eight false a b i ≡ true → true ≡ same_eight c a b i
+pub every_all : (p : ℕ → Bool) (s : List ℕ) (i k : ℕ) (t : Bool) → t ≡ every p (take k (drop i s)) → k ≤ 8 → 8 ≤ k → t ≡ every p (take 8 (drop i s))
+every_all p s i k t e h l = let n : k ≡ 8 = omega arith in rw n at e
+
+module _ (f g : ℕ → ℕ) (a b : List ℕ) (i k : ℕ) (t : Bool) (e : t ≡ same (map f (take k (drop i a))) (map g (take k (drop i b)))) where
+  pub eight_next : i + 8 ≤ length a → i + 8 ≤ length b → k < 8 → (x y : ℕ) → x ≡ f (get_or a (i + k) 0) → y ≡ g (get_or b (i + k) 0)
+      → (t && eqb x y) ≡ same (map f (take (k + 1) (drop i a))) (map g (take (k + 1) (drop i b)))
+  eight_next h m l x y ex ey = rw add-one (
+      ap₂ ◌&&◌ e (ap₂ eqb (ex ∙ ap f (sym (get_or-drop i a k 0))) (ey ∙ ap g (sym (get_or-drop i b k 0))))
+      ∙ sym (same_next f g (drop i a) (drop i b) k (omega (arith, length-drop i a)) (omega (arith, length-drop i b))))
+
+  pub eight_all : k ≤ 8 → 8 ≤ k → t ≡ same_eight f g a b i
+  unfolding same_eight
+  eight_all h l = let n : k ≡ 8 = omega arith in rw n at e
+
+pub same_none : (f g : ℕ → ℕ) (a b : List ℕ) → true ≡ same (map f (take 0 a)) (map g (take 0 b))
+unfolding same
+same_none f g a b = refl
+
+pub map_as_is : (l : List ℕ) → map as_is l ≡ l
+map_as_is [] = refl
+map_as_is (x ∷ l) = ap (λ (t : List ℕ). x ∷ t) (map_as_is l)
+
+pub same_eight_eq : (f g : ℕ → ℕ) (a b : List ℕ) (i : ℕ) → same_eight f g a b i ≡ true → map f (take 8 (drop i a)) ≡ map g (take 8 (drop i b))
 unfolding same_eight
-same_eight_plain c a b i e =
-    let p : take 8 (drop i a) ≡ take 8 (drop i b) = sym (map_plain (take 8 (drop i a))) ∙ same_eq _ _ e ∙ map_plain (take 8 (drop i b)) in
-    rw p (sym (same_refl (map (in_case c) (take 8 (drop i b)))))
+same_eight_eq f g a b i e = same_eq _ _ e
 
-pub same_eight_eq : (c : Bool) (a b : List ℕ) (i : ℕ) → same_eight c a b i ≡ true → map (in_case c) (take 8 (drop i a)) ≡ map (in_case c) (take 8 (drop i b))
-unfolding same_eight
-same_eight_eq c a b i e = same_eq _ _ e
+-- what is the same as it stands is the same however it is read
+pub agree_eq : (f : ℕ → ℕ) (a b : List ℕ) (i : ℕ) → (same_eight as_is as_is a b i || same_eight f f a b i) ≡ true → map f (take 8 (drop i a)) ≡ map f (take 8 (drop i b))
+agree_eq f a b i e = go (same_eight as_is as_is a b i) refl e
+  where
+    go : (p : Bool) → same_eight as_is as_is a b i ≡ p → (p || same_eight f f a b i) ≡ true → map f (take 8 (drop i a)) ≡ map f (take 8 (drop i b))
+    go true h g = ap (map f) (sym (map_as_is (take 8 (drop i a))) ∙ same_eight_eq as_is as_is a b i h ∙ map_as_is (take 8 (drop i b)))
+    go false h g = same_eight_eq f f a b i g
 
 -- k bytes more that are the same
 pub take_longer : (f : ℕ → ℕ) (a b : List ℕ) (i k : ℕ) → map f (take i a) ≡ map f (take i b) → map f (take k (drop i a)) ≡ map f (take k (drop i b))

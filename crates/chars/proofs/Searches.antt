@@ -1,7 +1,7 @@
 -- What a loop over a text cites: the text from the position i on, and the text up to i.
 -- Assumes nothing.
 use mathlib.Core.Path.{◌≡◌, refl, sym, ap, ◌∙◌}
-use mathlib.Core.Bool.{Bool, true, false, not, ◌&&◌, cond, false≢true}
+use mathlib.Core.Bool.{Bool, true, false, not, ◌&&◌, ◌||◌, cond, false≢true}
 use mathlib.Core.List.{List, [], ◌∷◌, ◌++◌}
 use Prim.Native.Nat.{ℕ, zero, suc, ◌+◌, ◌-◌, ◌≤◌, ◌<◌}
 use native.Mathlib.Nat.{zero-add}
@@ -11,6 +11,9 @@ use lib.Dec.{eqb}
 use lib.ListN.{length, take, drop, get_or, drop_of_length-le}
 use lib.Seq.{drop-cons, drop-length, take-suc, length-take-le}
 use borrow.Author.Tests.{eq-eqb, ne_eqb}
+use Rattle.std.proofs.lemmas.Bool.Decides.{nat_tests}
+use Rattle.std.specs.Prelude.{nat_eq}
+use Rattle.std.specs.List.{list_any}
 use Rattle.chars.specs.Lists.{every, first_passing, index_of, lacks, after_first, after_last}
 use Rattle.base.proofs.Lists.{take_rest}
 use Rattle.base.proofs.Bools.{and_left, and_right, and_true}
@@ -82,14 +85,21 @@ module _ (b : ℕ) where
       pub index_miss4 : (get_or s (i + 3) 0 ≡ b → ⊥) → i + 3 < length s → i + index_of b (drop i s) ≡ i + 4 + index_of b (drop (i + 4) s)
       index_miss4 n3 h = index_miss3 (omega arith) ∙ next (i + 3) (i + 4) (omega arith) h n3
 
+-- what the library finds
+pub any_lacks : (b : ℕ) (s : List ℕ) → not (list_any (λ (x : ℕ). nat_eq x b) s) ≡ lacks b s
+unfolding lacks first_passing
+any_lacks b [] = refl
+any_lacks b (x ∷ s) = go (eqb x b) (any_lacks b s)
+  where
+    go : (q : Bool) → not (list_any (λ (y : ℕ). nat_eq y b) s) ≡ lacks b s →
+        not (q || list_any (λ (y : ℕ). nat_eq y b) s) ≡ eqb (cond q 0 (suc (index_of b s))) (suc (length s))
+    go true e = grind (arith, nat_tests)
+    go false e = e ∙ grind (arith, nat_tests)
+
 -- the same, where a search from the start found i
 module _ (b : ℕ) (s : List ℕ) (i : ℕ) (here : i ≡ 0 + index_of b s) where
   pub index_found : index_of b s ≡ i
   index_found = sym (here ∙ zero-add (index_of b s))
-
-  pub lacks_found : eqb i (length s) ≡ lacks b s
-  unfolding lacks
-  lacks_found = rw index_found
 
   pub drop_after : take (length s - (i + 1)) (drop (i + 1) s) ≡ drop (index_of b s + 1) s
   drop_after = rw index_found (take_rest s (i + 1))

@@ -4,8 +4,8 @@ use Rattle.std.specs.Prelude.{ℕ, ◌+◌, ◌-◌, Bool, ◌&&◌, cond, List,
 use Prim.Native.Char.{code}
 use Rattle.chars.specs.Bytes.{slash, within}
 use Rattle.chars.specs.Lists.{same, begins}
-use Rattle.chars.specs.declared.folding.Order.{Order}
-use Rattle.chars.specs.declared.folding.Order.TheVariants.{Less, Equal, Greater}
+use Rattle.std.specs.declared.cmp.Ordering.{Ordering}
+use Rattle.std.specs.declared.cmp.Ordering.TheVariants.{Less, Equal, Greater}
 
 -- "Folding maps A–Z to a–z and nothing else."
 unfoldable pub lower : ℕ → ℕ
@@ -23,14 +23,14 @@ unfoldable pub derivable : List ℕ → List ℕ → Bool
 derivable a b = begins (fold b ++ slash ∷ []) (fold a) && ltb (length b + 1) (length a)
 
 -- "byte by byte; a proper prefix comes first"
-unfoldable pub order : List ℕ → List ℕ → Order
+unfoldable pub order : List ℕ → List ℕ → Ordering
 order [] [] = Equal
 order [] (y ∷ t) = Less
 order (x ∷ s) [] = Greater
 order (x ∷ s) (y ∷ t) = cond (ltb x y) Less (cond (ltb y x) Greater (order s t))
 
 -- "Folded order compares foldings"
-unfoldable pub folded_order : List ℕ → List ℕ → Order
+unfoldable pub folded_order : List ℕ → List ℕ → Ordering
 folded_order a b = order (fold a) (fold b)
 
 -- s ends in e, folded

@@ -1,14 +1,14 @@
 // A wanted name, folded once, and held names compared with it.
-ghost use Rattle.std.specs.Prelude.{◌≡◌, cond, ◌+◌, ◌≤◌, ltb, length};
+ghost use Rattle.std.specs.Prelude.{◌≡◌, ◌+◌, ◌≤◌, length};
 ghost use Rattle.base.specs.Buffer.{part};
 ghost use Rattle.chars.specs.Lists.{same};
-ghost use Rattle.chars.specs.Folding.{lower, fold};
-ghost use Rattle.chars.specs.FoldedNames.{folded_size, HoldsFolding, folded_eight, held_eight, SharedSome, Shared, OrderPast, Compared};
+ghost use Rattle.chars.specs.Folding.{fold};
+ghost use Rattle.chars.specs.FoldedNames.{folded_size, HoldsFolding, SharedSome, SharedUpTo, Shared, OrderPast, Compared};
 
-use crate::folding::Order;
-use crate::letters::{folds_to_byte, to_lower};
-use crate::starts::is_same_eight;
-use base::numbers::smaller;
+use crate::cases::{AsIs, Case, Folded};
+use crate::letters::to_lower;
+use crate::starts::agree;
+use std::cmp::Ordering;
 
 // How many bytes the array has that a wanted name is folded into.
 pub const FOLDED_SIZE: usize = 256;
@@ -18,18 +18,9 @@ pub fn fold_into(f: &mut [u8], s: &[u8])
     requires { (length s.now ≤ folded_size) × (length f.old ≡ folded_size) }
     ensures { HoldsFolding f.new s.now }
 {
-    let mut i = 0;
-    while i < s.len() {
+    for i in 0..s.len() {
         f[i] = to_lower(s[i]);
-        i += 1;
     }
-}
-
-fn text_in(s: &[u8], at: usize, n: usize) -> &[u8]
-    requires { at + n ≤ length s.now }
-    ensures { result.now ≡ part at n s.now }
-{
-    &s[at..at + n]
 }
 
 // The n bytes of the array from `at` on.
@@ -37,56 +28,40 @@ pub fn folded_text(f: &[u8; FOLDED_SIZE], at: usize, n: usize) -> &[u8]
     requires { at + n ≤ folded_size }
     ensures { result.now ≡ part at n f.now }
 {
-    text_in(f, at, n)
+    &f[at..at + n]
 }
 
-fn is_folded_eight(a: &[u8], q: &[u8], i: usize) -> bool
-    requires { (i + 8 ≤ length a.now) × (i + 8 ≤ length q.now) }
-    ensures { result ≡ folded_eight a.now q.now i }
-{
-    folds_to_byte(a[i], q[i])
-        & folds_to_byte(a[i + 1], q[i + 1])
-        & folds_to_byte(a[i + 2], q[i + 2])
-        & folds_to_byte(a[i + 3], q[i + 3])
-        & folds_to_byte(a[i + 4], q[i + 4])
-        & folds_to_byte(a[i + 5], q[i + 5])
-        & folds_to_byte(a[i + 6], q[i + 6])
-        & folds_to_byte(a[i + 7], q[i + 7])
-}
-
-// Eight bytes of a are those of q: as they stand, as mostly, or folded, if that is looked at.
-fn folds_to_eight(a: &[u8], q: &[u8], i: usize, folded: bool) -> bool
-    requires { (i + 8 ≤ length a.now) × (i + 8 ≤ length q.now) }
-    ensures { result ≡ held_eight folded a.now q.now i }
-{
-    if is_same_eight(a, q, i) {
-        return true;
-    }
-    if folded {
-        return is_folded_eight(a, q, i);
-    }
-    false
-}
-
-// So many bytes of a at least, folded, are those of q at its beginning, if the first `from` are. Where `folded` is not set, only those are taken that are
-// the same as they stand.
-fn shared_eights(a: &[u8], q: &[u8], from: usize, folded: bool) -> usize
+// So many bytes of a at least, folded, are those of q at its beginning, if the first `from` are: eight at a time, as they stand or as they are read.
+fn shared_eights<C: Case>(a: &[u8], q: &[u8], from: usize) -> usize
     requires { fold q.now ≡ q.now }
     ensures { SharedSome a.now q.now from result }
 {
-    let n = smaller(a.len(), q.len());
+    let n = a.len().min(q.len());
     if n < from {
         return n;
     }
-    let mut i = from;
-    while 8 <= n - i {
-        if folds_to_eight(a, q, i, folded) {
-            i += 8;
-        } else {
+    let m = (n - from) / 8;
+    for k in 0..m {
+        let i = from + 8 * k;
+        if !agree::<C, AsIs>(a, q, i) {
             return i;
         }
     }
-    i
+    from + 8 * m
+}
+
+// The same, up to the first byte that is not the same as it is read.
+fn shared_bytes<C: Case>(a: &[u8], q: &[u8], from: usize) -> usize
+    requires { fold q.now ≡ q.now }
+    ensures { SharedUpTo C.read a.now q.now from result }
+{
+    let n = a.len().min(q.len());
+    for i in shared_eights::<C>(a, q, from)..n {
+        if C::read(a[i]) != q[i] {
+            return i;
+        }
+    }
+    n
 }
 
 // How many bytes of a, folded, are those of q at its beginning, if the first `from` are.
@@ -94,65 +69,23 @@ pub fn shared_start(a: &[u8], q: &[u8], from: usize) -> usize
     requires { fold q.now ≡ q.now }
     ensures { Shared a.now q.now from result }
 {
-    let n = smaller(a.len(), q.len());
-    let mut i = shared_eights(a, q, from, true);
-    while i < n {
-        if folds_to_byte(a[i], q[i]) {
-            i += 1;
-        } else {
-            return i;
-        }
-    }
-    i
-}
-
-// So many bytes of a at least, up to the first that is not the same as it stands, are those of q at its beginning, if the first `from` are.
-fn same_bytes(a: &[u8], q: &[u8], from: usize) -> usize
-    requires { fold q.now ≡ q.now }
-    ensures { SharedSome a.now q.now from result }
-{
-    let end = smaller(a.len(), q.len());
-    let mut i = shared_eights(a, q, from, false);
-    while i < end {
-        if a[i] == q[i] {
-            i += 1;
-        } else {
-            return i;
-        }
-    }
-    i
-}
-
-// The order of two bytes of which the first, folded, is not the second.
-fn order_bytes(x: u8, y: u8) -> Order
-    ensures { result ≡ cond (ltb (lower x) y) Order.Less Order.Greater }
-{
-    if to_lower(x) < y {
-        return Order::Less;
-    }
-    Order::Greater
+    shared_bytes::<Folded>(a, q, from)
 }
 
 // How a, folded, stands to q, where c bytes at their beginning are the same, and no more.
-fn order_past(a: &[u8], q: &[u8], c: usize) -> Order
+fn order_past(a: &[u8], q: &[u8], c: usize) -> Ordering
     ensures { OrderPast a.now q.now c result }
 {
-    if a.len() <= c {
-        if q.len() <= c {
-            return Order::Equal;
-        }
-        return Order::Less;
+    if c < a.len() && c < q.len() {
+        return to_lower(a[c]).cmp(&q[c]);
     }
-    if q.len() <= c {
-        return Order::Greater;
-    }
-    order_bytes(a[c], q[c])
+    a.len().cmp(&q.len())
 }
 
 // How a held name stands to a wanted one, and how many bytes at their beginning are the same.
 #[derive(Drop)]
 pub struct Comparison {
-    pub order: Order,
+    pub order: Ordering,
     pub common: usize,
 }
 
@@ -173,18 +106,12 @@ pub fn compare_past(a: &[u8], q: &[u8], from: usize) -> Comparison
     requires { fold q.now ≡ q.now }
     ensures { Compared a.now q.now from result.order result.common }
 {
-    let c = same_bytes(a, q, from);
-    if smaller(a.len(), q.len()) <= c {
-        return Comparison {
-            order: order_past(a, q, c),
-            common: c,
-        };
-    }
-    if folds_to_byte(a[c], q[c]) {
+    let c = shared_bytes::<AsIs>(a, q, from);
+    if c < a.len() && c < q.len() && to_lower(a[c]) == q[c] {
         return compare_on(a, q, c);
     }
     Comparison {
-        order: order_bytes(a[c], q[c]),
+        order: order_past(a, q, c),
         common: c,
     }
 }
@@ -194,8 +121,5 @@ pub fn folds_to(a: &[u8], q: &[u8]) -> bool
     requires { fold q.now ≡ q.now }
     ensures { result ≡ same (fold a.now) q.now }
 {
-    if a.len() != q.len() {
-        return false;
-    }
-    shared_start(a, q, 0) == q.len()
+    a.len() == q.len() && shared_start(a, q, 0) == q.len()
 }

@@ -1,30 +1,23 @@
 // Folding, and what is compared by it.
 ghost use Rattle.std.specs.Prelude.{◌≡◌, map};
+ghost use Rattle.std.specs.Ordering.{nat_cmp};
 ghost use Rattle.chars.specs.Folding.{equivalent, derivable, order, folded_order, ends_in};
-ghost use Rattle.chars.specs.Comparing.{in_case, byte_order};
 
-use crate::letters::{is_same_letter, to_lower};
+use crate::cases::{AsIs, Case, Folded};
+use crate::letters::is_same_letter;
 use crate::starts::same_start;
 use base::bytes::byte_at;
+use std::cmp::Ordering;
 
-#[derive(Clone, Copy)]
-pub enum Order {
-    Less,
-    Equal,
-    Greater,
-}
-
+// The library's `eq_ignore_ascii_case` of slices takes two to nine times as long at 24 bytes.
 pub fn is_equivalent(a: &[u8], b: &[u8]) -> bool
     ensures { result ≡ equivalent a.now b.now }
 {
     if a.len() != b.len() {
         return false;
     }
-    let mut i = same_start(true, a, b);
-    while i < a.len() {
-        if is_same_letter(a[i], b[i]) {
-            i += 1;
-        } else {
+    for i in same_start::<Folded>(a, b)..a.len() {
+        if !is_same_letter(a[i], b[i]) {
             return false;
         }
     }
@@ -44,64 +37,39 @@ pub fn is_derivable(a: &[u8], b: &[u8]) -> bool
     false
 }
 
-fn to_case(folded: bool, b: u8) -> u8
-    ensures { result ≡ in_case folded b }
-{
-    if folded { to_lower(b) } else { b }
-}
-
-// 0 less, 1 equal, 2 greater: two bytes, folded or as they stand. Most that are compared are the same.
-fn byte_order(folded: bool, p: u8, q: u8) -> u8
-    ensures { result ≡ byte_order (in_case folded p) (in_case folded q) }
+// Two bytes. Most that are compared are the same.
+fn byte_order<C: Case>(p: u8, q: u8) -> Ordering
+    ensures { result ≡ nat_cmp (C.read p) (C.read q) }
 {
     if p == q {
-        return 1;
+        return Ordering::Equal;
     }
-    let x = to_case(folded, p);
-    let y = to_case(folded, q);
-    if x < y {
-        return 0;
-    }
-    if y < x {
-        return 2;
-    }
-    1
+    C::read(p).cmp(&C::read(q))
 }
 
-// Byte by byte, folded or as they stand; a proper prefix comes first.
-fn compare_by(folded: bool, a: &[u8], b: &[u8]) -> Order
-    ensures { result ≡ order (map (in_case folded) a.now) (map (in_case folded) b.now) }
+// Byte by byte, as they are read; a proper prefix comes first. The library's `cmp` of slices takes 1.7 times as long at 24 bytes.
+fn compare_by<C: Case>(a: &[u8], b: &[u8]) -> Ordering
+    ensures { result ≡ order (map C.read a.now) (map C.read b.now) }
 {
-    let mut i = same_start(folded, a, b);
-    while i < a.len() {
-        if b.len() <= i {
-            return Order::Greater;
+    for i in same_start::<C>(a, b)..a.len().min(b.len()) {
+        let o = byte_order::<C>(a[i], b[i]);
+        if o.is_ne() {
+            return o;
         }
-        let o = byte_order(folded, a[i], b[i]);
-        if o == 0 {
-            return Order::Less;
-        }
-        if o == 2 {
-            return Order::Greater;
-        }
-        i += 1;
     }
-    if i < b.len() {
-        return Order::Less;
-    }
-    Order::Equal
+    a.len().cmp(&b.len())
 }
 
-pub fn compare(a: &[u8], b: &[u8]) -> Order
+pub fn compare(a: &[u8], b: &[u8]) -> Ordering
     ensures { result ≡ order a.now b.now }
 {
-    compare_by(false, a, b)
+    compare_by::<AsIs>(a, b)
 }
 
-pub fn compare_folded(a: &[u8], b: &[u8]) -> Order
+pub fn compare_folded(a: &[u8], b: &[u8]) -> Ordering
     ensures { result ≡ folded_order a.now b.now }
 {
-    compare_by(true, a, b)
+    compare_by::<Folded>(a, b)
 }
 
 pub fn ends_in(s: &[u8], e: &[u8]) -> bool

@@ -1,6 +1,7 @@
 // Bytes and characters: folded, compared, searched.
 #![tactic(auto)]
 
+pub mod cases;
 pub mod folded;
 pub mod folding;
 pub mod letters;

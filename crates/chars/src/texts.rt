@@ -6,28 +6,14 @@ ghost use Rattle.chars.specs.Lists.{same, begins as beginsWith};
 pub fn is_same(a: &[u8], b: &[u8]) -> bool
     ensures { result ≡ same a.now b.now }
 {
-    if a.len() != b.len() {
-        return false;
-    }
-    let mut i = 0;
-    while i < a.len() {
-        if a[i] != b[i] {
-            return false;
-        }
-        i += 1;
-    }
-    true
+    a == b
 }
 
 // s begins with t.
 pub fn begins(s: &[u8], t: &[u8]) -> bool
     ensures { result ≡ beginsWith t.now s.now }
 {
-    let n = t.len();
-    if s.len() < n {
-        return false;
-    }
-    is_same(&s[..n], t)
+    s.starts_with(t)
 }
 
 // The package, as a source or as the path of a pack IRI.

@@ -1,12 +1,14 @@
 -- The gate: the one law for a call that is turned away, and the one for going on.
 -- Assumes nothing.
 use Prim.Native.Nat.{ℕ}
-use mathlib.Core.Path.{◌≡◌, refl, ap, sym, ◌∙◌, subst}
+use mathlib.Core.Path.{◌≡◌, refl, ap, sym, ◌∙◌}
 use mathlib.Core.Bool.{Bool, true, false, not, true≢false}
-use mathlib.Core.List.{List, []}
+use mathlib.Core.List.{List}
 use native.Mathlib.Omega.{arith}
-use Rattle.output.specs.Answers.{Answer, answer, refusing}
-use Rattle.output.proofs.Answering.{refusing_is}
+use Rattle.output.specs.Answers.{Answer}
+use Rattle.output.specs.Refusals.{number}
+use Rattle.output.specs.declared.refusals.Refusal.{Refusal}
+use Rattle.output.proofs.Answering.{number_some}
 use Rattle.model.specs.Fields.{when}
 use Rattle.model.specs.Package.{State}
 use Rattle.model.specs.Calls.{Find, View, Totals, Call, Start, Looks, Changes, CutPart, TypeOrigin, Prints, lent}
@@ -39,10 +41,10 @@ turned p n e z = go (is_package p) refl e
     go false ex f = (ex, f)
     go true ex f = absurd (z f)
 
--- GOING ON: n is what `opened` answers
-pub let_in : (p : List ℕ) (n : ℕ) → n ≡ turned_number p → n ≡ 0 → Open p
+-- GOING ON
+pub let_in : (p : List ℕ) → 0 ≡ turned_number p → Open p
 unfolding turned_number
-let_in p n e z = go (is_package p) refl (sym e ∙ z)
+let_in p e = go (is_package p) refl (sym e)
   where
     go : (x : Bool) → is_package p ≡ x → when (not x) 1 ≡ 0 → Open p
     go false ex f = let q : ◌≡◌ {A = ℕ} 1 0 = f in absurd (omega arith)
@@ -51,27 +53,6 @@ let_in p n e z = go (is_package p) refl (sym e ∙ z)
 -- what holds an abstract package is never turned away
 pub never_turned : (p : List ℕ) (S : State) → Holds p S → (n : ℕ) → n ≡ turned_number p → (n ≡ 0 → ⊥) → {A : Type 0} → A
 never_turned p S h n e z = absurd (true≢false (sym (is_package_lem p S h) ∙ (turned p n e z).0))
-
--- TURNED AWAY. The answer as the calls give it, each by its enum; a view gives no bytes
-abbrev pub turned_by : ℕ → Call → Answer
-turned_by n (Start C) = refusing n (turned_away n (Start C))
-turned_by n (Looks (Find name)) = refusing n (turned_away n (Looks (Find name)))
-turned_by n (Looks (View name)) = answer 0 [] []
-turned_by n (Looks Totals) = refusing n (turned_away n (Looks Totals))
-turned_by n (Changes c) = refusing n (turned_away n (Changes c))
-turned_by n (CutPart name k) = refusing n (turned_away n (CutPart name k))
-turned_by n (TypeOrigin name output) = refusing n (turned_away n (TypeOrigin name output))
-turned_by n (Prints w output) = refusing n (turned_away n (Prints w output))
-
-turned_is : (c : Call) (n : ℕ) → (n ≡ 0 → ⊥) → turned_by n c ≡ turned_away n c
-turned_is (Start C) n z = refusing_is n z _
-turned_is (Looks (Find name)) n z = refusing_is n z _
-turned_is (Looks (View name)) n z = refl
-turned_is (Looks Totals) n z = refusing_is n z _
-turned_is (Changes c) n z = refusing_is n z _
-turned_is (CutPart name k) n z = refusing_is n z _
-turned_is (TypeOrigin name output) n z = refusing_is n z _
-turned_is (Prints w output) n z = refusing_is n z _
 
 turned_output : (c : Call) (n : ℕ) → (turned_away n c).output ≡ lent c
 turned_output (Start C) n = refl
@@ -91,15 +72,17 @@ none_begun (CutPart name n) s p a q = tt
 none_begun (TypeOrigin name output) s p a q = tt
 none_begun (Prints w output) s p a q = tt
 
--- every call but start that answers by that number, with zeros, or with the empty view
-pub turned_away_lem : (p : List ℕ) (c : Call) (n : ℕ) → starts c ≡ false → n ≡ turned_number p → (n ≡ 0 → ⊥) → Ran c p (turned_by n c) p
-turned_away_lem p c n s e z =
-    let t = turned p n e z in
-    subst (λ (a : Answer). Ran c p a p) (sym (turned_is c n z)) (record {
-      ledger = λ S h. never_turned p S h n e z;
-      kept = λ _. (refl, turned_output c n);
+-- TURNED AWAY: every call but start that answers the refusal's number, with zeros, or the empty view
+pub turned_away_lem : (p : List ℕ) (c : Call) (r : Refusal) → starts c ≡ false → number r ≡ turned_number p
+    → Ran c p (turned_away (number r) c) p
+turned_away_lem p c r s e =
+    let z = number_some r in
+    let t = turned p (number r) e z in
+    record {
+      ledger = λ S h. never_turned p S h (number r) e z;
+      kept = λ _. (refl, turned_output c (number r));
       foreign = λ _ _. ap (λ (m : ℕ). turned_away m c) t.1;
       numbered = λ _ o. absurd (true≢false (sym o ∙ t.0));
-      begun = none_begun c s p (turned_away n c) p;
+      begun = none_begun c s p (turned_away (number r) c) p;
       sized = refl;
-    })
+    }

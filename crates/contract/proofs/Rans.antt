@@ -8,8 +8,10 @@ use native.Mathlib.Omega.{arith}
 use lib.Dec.{ltb, eqb}
 use lib.ListN.{length}
 use borrow.Author.Tests.{ne_eqb, eqb-true, eqb-false}
-use Rattle.output.specs.Answers.{Answer, answer, unanswered, filled}
-use Rattle.output.proofs.Answering.{refusing_is}
+use Rattle.output.specs.Answers.{Answer, answer, filled, refusing}
+use Rattle.output.specs.Refusals.{number}
+use Rattle.output.specs.declared.refusals.Refusal.{Refusal}
+use Rattle.output.proofs.Answering.{number_some}
 use Rattle.model.specs.Sets.{Bytes}
 use Rattle.model.specs.Fields.{when}
 use Rattle.model.specs.Package.{State, empty}
@@ -22,9 +24,6 @@ use Rattle.model.proofs.Steps.{change_good, cut_step_good}
 use Rattle.model.proofs.CutRefusals.{cut_refused}
 use Rattle.store.specs.Packages.{is_package}
 use Rattle.contract.specs.Holds.{Lies, Holds}
-use Rattle.contract.specs.Answers.{of_did, of_cut}
-use Rattle.contract.specs.declared.answers.Did.TheVariants.{Refused}
-use Rattle.contract.specs.declared.answers.Cut.TheVariants as cuts
 use Rattle.contract.specs.Ran.{Ran, no_package, starts}
 use Rattle.contract.specs.Opening.{Open}
 use Rattle.model.proofs.Refusals.{changed_done}
@@ -123,13 +122,13 @@ ran_changed p o c a q l n k e = record {
 }
 
 -- a change that is refused by its fields
-pub field_refused : (p : List ℕ) → Open p → (c : Change) (n : ℕ) → (n ≡ 0 → ⊥) → ((S : State) → change_refusal S c ≡ n) →
-    Ran (Changes c) p (of_did (Refused n)) p
+pub field_refused : (p : List ℕ) → Open p → (c : Change) (r : Refusal) → ((S : State) → change_refusal S c ≡ number r) →
+    Ran (Changes c) p (refused (number r)) p
 unfolding change
-field_refused p o c n z e =
-    rw (refusing_is n z (refused n))
-    (change_refused p o c n (subst Numbered (e (empty 0)) (change_numbered (empty 0) c))
-    (λ S h. ap (λ (j : ℕ). changed j S (change_made S c)) (e S) ∙ changed_refused n S (change_made S c) z))
+field_refused p o c r e =
+    let n = number r in
+    change_refused p o c n (subst Numbered (e (empty 0)) (change_numbered (empty 0) c))
+    (λ S h. ap (λ (j : ℕ). changed j S (change_made S c)) (e S) ∙ changed_refused n S (change_made S c) (number_some r))
 
 -- a cut whose answer and bytes are the ledger's, made or refused
 pub ran_cut : (p : List ℕ) → Open p → (name : Bytes) (n : ℕ) (a : Answer) (q : List ℕ) → length q ≡ length p → Numbered a.number →
@@ -145,17 +144,16 @@ ran_cut p o name n a q l u k e = record {
 }
 
 -- a cut that is refused before the first write
-pub ran_cut_refused : (p : List ℕ) → Open p → (name : Bytes) (n k : ℕ) → (k ≡ 0 → ⊥) → Numbered k →
-    ((S : State) → Holds p S → cut_refusal S name n ≡ k) → Ran (CutPart name n) p (of_cut (cuts.Refused k)) p
-ran_cut_refused p o name n k z u e =
-    rw (refusing_is k z (zeros k))
-    (ran_cut p o name n (zeros k) p refl u (λ _. (refl, refl)) (λ S h. rw (told S h) (refl, h.lies)))
+pub ran_cut_refused : (p : List ℕ) → Open p → (name : Bytes) (n : ℕ) (r : Refusal) → Numbered (number r) →
+    ((S : State) → Holds p S → cut_refusal S name n ≡ number r) → Ran (CutPart name n) p (refusing 2 r []) p
+ran_cut_refused p o name n r u e =
+    ran_cut p o name n (zeros (number r)) p refl u (λ _. (refl, refl)) (λ S h. rw (told S h) (refl, h.lies))
   where
     zeros : ℕ → Answer
     zeros j = answer j (0 ∷ 0 ∷ []) []
 
-    told : (S : State) → Holds p S → cut S name n ≡ (zeros k, S)
-    told S h = cut_refused S name n (λ y. z (sym (e S h) ∙ y)) ∙ ap (λ (j : ℕ). (zeros j, S)) (e S h)
+    told : (S : State) → Holds p S → cut S name n ≡ (zeros (number r), S)
+    told S h = cut_refused S name n (λ y. number_some r (sym (e S h) ∙ y)) ∙ ap (λ (j : ℕ). (zeros j, S)) (e S h)
 
 -- A CALL ANSWERS: its number is one of documents 01 and 02, whatever the bytes
 pub start_small : (room C : ℕ) → start_refusal room C ≤ 2
@@ -194,6 +192,3 @@ ran_number (Changes c) p a q r = tested (Changes c) p a q r refl
 ran_number (CutPart name n) p a q r = tested (CutPart name n) p a q r refl
 ran_number (TypeOrigin name output) p a q r = tested (TypeOrigin name output) p a q r refl
 ran_number (Prints w output) p a q r = tested (Prints w output) p a q r refl
-
-pub answered : (c : Call) (p : List ℕ) (a : Answer) (q : List ℕ) → Ran c p a q → a ≡ unanswered → ⊥
-answered c p a q r e = omega (arith, ran_number c p a q r, ap (λ (x : Answer). x.number) e)

@@ -9,7 +9,9 @@ use native.Mathlib.Omega.{arith}
 use lib.Dec.{leb, ltb, eqb}
 use lib.ListN.{length, get_or, take, drop}
 use borrow.Author.Tests.{lt-ltb, le-ltb, le-leb, lt-leb, leb-true, leb-false, ltb-true, ltb-false}
-use Rattle.output.proofs.Answering.{refusing_is}
+use Rattle.output.specs.Refusals.{number}
+use Rattle.output.specs.declared.refusals.Refusal.{Refusal}
+use Rattle.output.proofs.Answering.{number_some}
 use Rattle.model.specs.Sets.{Bytes, Key, before, same_key, held, lookup, insert, remove}
 use Rattle.model.specs.Places.{bound, place, spot}
 use Rattle.model.specs.Fields.{when, first}
@@ -27,8 +29,6 @@ use Rattle.store.specs.Packages.{Sound, Became, Room, Inserted, Removed}
 use Rattle.store.proofs.Headers.{rows_count, row_get_or}
 use Rattle.contract.specs.Rows.{default_tag, override_tag, set_of, key_in, row_key}
 use Rattle.contract.specs.Searches.{Ordered, Bounded, Placed}
-use Rattle.contract.specs.Answers.{of_did}
-use Rattle.contract.specs.declared.answers.Did.TheVariants.{Refused}
 use Rattle.contract.specs.Entries.{Sought, Taken, row_count, RowsCounted, SetFull, key_taken, no_row_room, row_refusal, Roomy, Weighed, Entered, Dropped}
 
 -- an entry is held where its spot is one of the list
@@ -230,26 +230,28 @@ module _ (b : List ℕ) (own limit t : ℕ) (f0 f1 f2 f3 : Bytes) (set : ℕ) (t
         numbered = numbered 15 (omega arith) (omega arith);
       }
 
--- the row put in
-module _ (b : List ℕ) (own limit t : ℕ) (f0 f1 f2 f3 : Bytes) (k : ℕ) (w : Weighed b own limit (make_row t f0 f1 f2 f3) k) where
-  pub entered_refused : (k ≡ 0 → ⊥) → Entered b own limit (make_row t f0 f1 f2 f3) (of_did (Refused k)) b
-  entered_refused z = rw (refusing_is k z (refused k)) (record {
-    kept = λ _. (refl, refl);
-    numbered = w.numbered;
-    stopped = λ q _. ap refused (w.is q);
-    made = λ q e. absurd (z (w.is q ∙ e));
-  })
+-- a row that is refused
+pub entered_refused : (b : List ℕ) (own limit : ℕ) (x : Row) (r : Refusal) → Weighed b own limit x (number r)
+    → Entered b own limit x (refused (number r)) b
+entered_refused b own limit x r w = record {
+  kept = λ _. (refl, refl);
+  numbered = w.numbered;
+  stopped = λ q _. ap refused (w.is q);
+  made = λ q e. absurd (number_some r (w.is q ∙ e));
+}
 
-  module _ (z : k ≡ 0) (set r : ℕ) (es : set ≡ set_of t) (eb : Bounded b (key_in set f0 t f1) r) where
+-- the row put in
+module _ (b : List ℕ) (own limit t : ℕ) (f0 f1 f2 f3 : Bytes) (w : Weighed b own limit (make_row t f0 f1 f2 f3) 0) where
+  module _ (set r : ℕ) (es : set ≡ set_of t) (eb : Bounded b (key_in set f0 t f1) r) where
     pub entered_room : Room b r (length f0 + (length f1 + (length f2 + length f3)))
-    entered_room = record { at = eb.within; more = (w.room z).0; fits = (w.room z).1 }
+    entered_room = record { at = eb.within; more = (w.room refl).0; fits = (w.room refl).1 }
 
     inserted_is : (q : List ℕ) → Inserted b q r (make_row t f0 f1 f2 f3) → Ordered b → Became b q (insert row_key (make_row t f0 f1 f2 f3) (rows_of b))
     unfolding insert_at
     inserted_is q x o =
         let X = make_row t f0 f1 f2 f3 in
         let K = row_key X in
-        let free : key_taken b X ≡ false = unmet (key_taken b X) 10 (omega arith) (all_none _ (sym (w.is o) ∙ z)).0 in
+        let free : key_taken b X ≡ false = unmet (key_taken b X) 10 (omega arith) (all_none _ (sym (w.is o))).0 in
         let e : r ≡ place row_key K (rows_of b) =
         eb.is o ∙ ap (λ (n : ℕ). bound row_key (key_in n f0 t f1) (rows_of b)) es
         ∙ bound_place row_key K (rows_of b) (absent row_key K (rows_of b) free) in
@@ -265,7 +267,7 @@ module _ (b : List ℕ) (own limit t : ℕ) (f0 f1 f2 f3 : Bytes) (k : ℕ) (w :
     entered_made q ins = record {
       kept = λ y. absurd (y refl);
       numbered = zero_numbered;
-      stopped = λ o y. absurd (y (sym (w.is o) ∙ z));
+      stopped = λ o y. absurd (y (sym (w.is o)));
       made = λ o _. (refl, inserted_is q (ins o.sound) o);
     }
 

@@ -10,8 +10,8 @@ use lib.ListN.{length, get_or}
 use borrow.Author.Tests.{lt-ltb, le-ltb, ltb-true, ltb-false}
 use Rattle.chars.specs.Folding.{fold, order}
 use Rattle.chars.specs.FoldedNames.{common, Shared, OrderPast, Compared}
-use Rattle.chars.specs.declared.folding.Order.{Order}
-use Rattle.chars.specs.declared.folding.Order.TheVariants.{Less, Equal, Greater}
+use Rattle.std.specs.declared.cmp.Ordering.{Ordering}
+use Rattle.std.specs.declared.cmp.Ordering.TheVariants.{Less, Equal, Greater}
 use Rattle.chars.proofs.CommonStarts.{common_same, common_apart, common_between}
 use Rattle.model.specs.Sets.{Bytes, Key, then_by, key_order, is_less, is_equal, before, same_key}
 use Rattle.model.specs.Places.{bound}
@@ -40,15 +40,15 @@ pub set_same : (n : ℕ) (a c x y : Bytes) → key_order (n ∷ a, x) (n ∷ c, 
 unfolding key_order order
 set_same n a c x y = rw (le-ltb n n (omega arith))
 
-pub then_less : (x : Order) → then_by Less x ≡ Less
+pub then_less : (x : Ordering) → then_by Less x ≡ Less
 unfolding then_by
 then_less x = refl
 
-pub then_greater : (x : Order) → then_by Greater x ≡ Greater
+pub then_greater : (x : Ordering) → then_by Greater x ≡ Greater
 unfolding then_by
 then_greater x = refl
 
-pub then_equal : (o : Order) (x y : Order) → o ≡ Equal → x ≡ y → x ≡ then_by o y
+pub then_equal : (o : Ordering) (x y : Ordering) → o ≡ Equal → x ≡ y → x ≡ then_by o y
 unfolding then_by
 then_equal o x y e f = rw e f
 
@@ -88,7 +88,7 @@ module _ (b : List ℕ) (i set : ℕ) (q : Bytes) (t : ℕ) (id : Bytes) (u own 
   stands_greater from h = record { is = λ s l _. let e = shares_other (λ n. absurd (omega arith)) s l in (order_greater h s l, omega arith) }
 
   -- they are of one: f is the row's text, x that of the key, and c bytes of them are the same
-  module _ (n : own ≡ set) (f : Bytes) (ef : Sound b → i < count_of b → f ≡ field_of (row_at b i) 0) (x : Bytes) (ex : x ≡ q) (from : ℕ) (o : Order) (c : ℕ)
+  module _ (n : own ≡ set) (f : Bytes) (ef : Sound b → i < count_of b → f ≡ field_of (row_at b i) 0) (x : Bytes) (ex : x ≡ q) (from : ℕ) (o : Ordering) (c : ℕ)
       (cp : Compared f x from o c) where
     common_is : Sound b → i < count_of b → (0 < from → from < shares b i K) → c ≡ common (fold f) q
     common_is s l h = (subst (λ (y : Bytes). Shared f y from c) ex cp.shared).is (go (ltb 0 from) refl)
@@ -97,21 +97,21 @@ module _ (b : List ℕ) (i set : ℕ) (q : Bytes) (t : ℕ) (id : Bytes) (u own 
         go true e = let k = h (ltb-true 0 from e) in omega (arith, shares_same n f ef s l)
         go false e = let k = ltb-false 0 from e in omega arith
 
-    pub stands_same : (g : Bytes) → (Sound b → i < count_of b → g ≡ field_of (row_at b i) 1) → (r : Order) →
+    pub stands_same : (g : Bytes) → (Sound b → i < count_of b → g ≡ field_of (row_at b i) 1) → (r : Ordering) →
         r ≡ then_by o (order (second set u g) (second set t id)) → Stands b i K from r c
     stands_same g eg r er = record {
       is = λ s l h.
           let e = common_is s l h in
           let k = shares_same n f ef s l in
           let oe : o ≡ order (fold (field_of (row_at b i) 0)) q = (subst (λ (y : Bytes). OrderPast f y c o) ex cp.past).is e ∙ ap (λ (y : Bytes). order (fold y) q) (ef s l) in
-          (er ∙ ap₂ (λ (y : Order) (v : Bytes). then_by y (order (second set u v) (second set t id))) oe (eg s l) ∙ order_same n s l, omega arith);
+          (er ∙ ap₂ (λ (y : Ordering) (v : Bytes). then_by y (order (second set u v) (second set t id))) oe (eg s l) ∙ order_same n s l, omega arith);
     }
 
     -- decided by the texts
-    pub stands_first : (r : Order) → o ≡ r → ((v : Order) → then_by r v ≡ r) → Stands b i K from o c
+    pub stands_first : (r : Ordering) → o ≡ r → ((v : Ordering) → then_by r v ≡ r) → Stands b i K from o c
     stands_first r e z =
         let v = order (second set u (field_of (row_at b i) 1)) (second set t id) in
-        stands_same (field_of (row_at b i) 1) (λ s l. refl) o (e ∙ sym (z v) ∙ ap (λ (y : Order). then_by y v) (sym e))
+        stands_same (field_of (row_at b i) 1) (λ s l. refl) o (e ∙ sym (z v) ∙ ap (λ (y : Ordering). then_by y v) (sym e))
 
 -- where the buffer ends before the row does, it is not sound
 pub stands_none : (b : List ℕ) (i : ℕ) (k : Key) (from t a n : ℕ) → HeadOf b i t a n → length b < a + n → Stands b i k from Less 0
@@ -225,7 +225,7 @@ module _ (b : List ℕ) (k : Key) where
   }
 
   module _ (lo hi below above m from c : ℕ) (h : Closing b k lo hi below above) (l : lo ≤ m) (r : m < hi) (fl : from ≤ below) (fr : from ≤ above)
-      (o : Order) (st : Stands b m k from o c) where
+      (o : Ordering) (st : Stands b m k from o c) where
     met : m < count_of b
     met = omega (arith, h.halved.high)
 
@@ -240,7 +240,7 @@ module _ (b : List ℕ) (k : Key) where
     share_here : Ordered b → c ≡ shares b m k - 1
     share_here q = (st.is q.sound met (between q)).1
 
-    order_here : (p : Order) → o ≡ p → Ordered b → p ≡ key_order (row_key (row_at b m)) k
+    order_here : (p : Ordering) → o ≡ p → Ordered b → p ≡ key_order (row_key (row_at b m)) k
     order_here p e q = sym e ∙ (st.is q.sound met (between q)).0
 
     pub closing_right : o ≡ Less → Closing b k (m + 1) hi c above

@@ -6,15 +6,16 @@ use mathlib.Core.Bool.{not, Bool, true, false}
 use mathlib.Core.List.{List, [], ◌∷◌, ◌++◌}
 use lib.ListN.{length}
 use Rattle.output.specs.Answers.{Answer}
+use Rattle.output.specs.Refusals.{number}
+use Rattle.output.specs.declared.refusals.Refusal.{Refusal}
+use Rattle.output.proofs.Answering.{number_some}
 use Rattle.model.specs.Sets.{Key, held, lookup}
 use Rattle.model.specs.Fields.{when, first}
 use Rattle.model.specs.Package.{State}
 use Rattle.model.specs.Puts.{put_refusal, drop_refusal, put_in, taken_out}
-use Rattle.model.specs.Calls.{Change, Changes, change_refusal, change_made}
+use Rattle.model.specs.Calls.{Change, Changes, change_refusal, change_made, refused}
 use Rattle.model.proofs.Refusals.{first_append, first_met, first_unmet, first_one, first_front, first_past}
 use Rattle.contract.specs.Rows.{set_key, RowKind}
-use Rattle.contract.specs.Answers.{of_did}
-use Rattle.contract.specs.declared.answers.Did.TheVariants.{Refused}
 use Rattle.contract.specs.Holds.{Holds}
 use Rattle.contract.specs.Entries.{Entered, Dropped}
 use Rattle.contract.specs.Ran.{Ran}
@@ -41,30 +42,33 @@ unfolding first
 own_tests true own ms ns h = refl
 own_tests false own ms ns h = first_append ms ns ∙ ap (λ (n : ℕ). first (n ∷ ns)) (sym (h refl))
 
--- n is the refusal of the fields
-module _ {E : Type 0} (K : RowKind E) (L : RowLawful K) (p : List ℕ) (o : Open p) (c : Change) (n : ℕ) where
-  module _ (fields : List ℕ) (k : Key) (D : Dropping K c fields k) (en : n ≡ first fields) where
+module _ {E : Type 0} (K : RowKind E) (L : RowLawful K) (p : List ℕ) (o : Open p) (c : Change) where
+  module _ (fields : List ℕ) (k : Key) (D : Dropping K c fields k) where
     abbrev missing : State → ℕ
     missing S = when (not (held (lookup K.kind.key k (K.kind.entries S)))) 13
 
-    pub drop_refused : (n ≡ 0 → ⊥) → Ran (Changes c) p (of_did (Refused n)) p
-    drop_refused z = field_refused p o c n z (λ S. D.refusal S ∙ first_front fields (missing S ∷ []) (λ y. z (en ∙ y)) ∙ sym en)
+    -- refused by the fields
+    pub drop_refused : (r : Refusal) → number r ≡ first fields → Ran (Changes c) p (refused (number r)) p
+    drop_refused r e =
+        field_refused p o c r
+        (λ S. D.refusal S ∙ first_front fields (missing S ∷ []) (λ y. number_some r (e ∙ y)) ∙ sym e)
 
-    pub drop_ran : n ≡ 0 → (a : Answer) (q : List ℕ) → length q ≡ length p → Dropped p (set_key K.set k) a q → Ran (Changes c) p a q
-    drop_ran z a q l w =
+    -- not refused by them
+    pub drop_ran : 0 ≡ first fields → (a : Answer) (q : List ℕ) → length q ≡ length p → Dropped p (set_key K.set k) a q → Ran (Changes c) p a q
+    drop_ran e a q l w =
         ran_changed p o c a q l w.numbered w.kept
         (λ S h. drop_step K L p S h c k a q w
-        (D.refusal S ∙ first_past fields (missing S ∷ []) (sym en ∙ z) ∙ first_one (missing S)) (D.made S))
+        (D.refusal S ∙ first_past fields (missing S ∷ []) (sym e) ∙ first_one (missing S)) (D.made S))
 
-  module _ (e : E) (tests : State → List ℕ) (P : Putting K c e tests) (en : n ≡ K.kind.fields e) where
-    pub put_refused : (n ≡ 0 → ⊥) → Ran (Changes c) p (of_did (Refused n)) p
-    put_refused z = field_refused p o c n z (λ S. P.refusal S ∙ first_met (K.kind.fields e) _ (λ y. z (en ∙ y)) ∙ sym en)
+  module _ (e : E) (tests : State → List ℕ) (P : Putting K c e tests) where
+    pub put_refused : (r : Refusal) → number r ≡ K.kind.fields e → Ran (Changes c) p (refused (number r)) p
+    put_refused r f = field_refused p o c r (λ S. P.refusal S ∙ first_met (K.kind.fields e) _ (λ y. number_some r (f ∙ y)) ∙ sym f)
 
-    pub put_ran : n ≡ 0 → (own : ℕ) →
+    pub put_ran : 0 ≡ K.kind.fields e → (own : ℕ) →
         ((S : State) → Holds p S → held (lookup K.kind.key (K.kind.key e) (K.kind.entries S)) ≡ false → own ≡ first (tests S)) →
         (a : Answer) (q : List ℕ) → length q ≡ length p → Entered p own K.kind.limit (K.row e) a q → Ran (Changes c) p a q
-    put_ran z own eo a q l w =
+    put_ran f own eo a q l w =
         ran_changed p o c a q l w.numbered w.kept
         (λ S h. put_step K L p S h c e own a q w
-        (P.refusal S ∙ first_unmet (K.kind.fields e) _ (sym en ∙ z)
+        (P.refusal S ∙ first_unmet (K.kind.fields e) _ (sym f)
         ∙ own_tests (held (lookup K.kind.key (K.kind.key e) (K.kind.entries S))) own (tests S) _ (eo S h)) (P.made S))

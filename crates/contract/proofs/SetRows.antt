@@ -10,7 +10,7 @@ use lib.Dec.{eqb, ltb}
 use lib.ListN.{length, length-append, length-map}
 use borrow.Author.Tests.{eqb-true, eqb-false, le-ltb}
 use Rattle.chars.specs.Folding.{fold, order}
-use Rattle.chars.specs.declared.folding.Order.TheVariants.{Equal, Greater}
+use Rattle.std.specs.declared.cmp.Ordering.TheVariants.{Equal, Greater}
 use Rattle.model.specs.Sets.{Bytes, Key, key_order, then_by, is_less, is_equal, before, same_key, lookup, insert, remove, Each}
 use Rattle.model.specs.Places.{first_where, bound}
 use Rattle.model.specs.Package.{State}

@@ -1,32 +1,30 @@
 -- The number and the values of documents 01 and 02 for each case of the engine's answers.
 -- Assumes nothing.
-use Rattle.std.specs.Prelude.{ℕ, List, [], ◌∷◌}
+use Rattle.std.specs.Prelude.{ℕ, List, [], ◌∷◌, Result, Ok, Err}
+use Rattle.output.specs.declared.refusals.Refusal.{Refusal}
+use Rattle.output.specs.Refusals.{number}
 use Rattle.output.specs.Answers.{Answer, answer, refusing}
 use Rattle.model.specs.Calls.{done, refused}
-use Rattle.contract.specs.declared.answers.Did.{Did}
-use Rattle.contract.specs.declared.answers.Did.TheVariants as did
 use Rattle.contract.specs.declared.answers.Cut.{Cut}
-use Rattle.contract.specs.declared.answers.Cut.TheVariants as cut
-use Rattle.contract.specs.declared.answers.Found.{Found}
-use Rattle.contract.specs.declared.answers.Found.TheVariants as found
-use Rattle.contract.specs.declared.answers.Totalled.{Totalled}
-use Rattle.contract.specs.declared.answers.Totalled.TheVariants as totalled
+use Rattle.contract.specs.declared.answers.Totals.{Totals}
 
-abbrev pub of_did : Did → Answer
-of_did did.Done = done
-of_did (did.Refused n) = refusing n (refused n)
+-- of a call that answers that it is done, or a refusal
+abbrev pub of_done : Result Unit Refusal → Answer
+of_done (Ok x) = done
+of_done (Err r) = refused (number r)
 
-abbrev pub of_cut : Cut → Answer
-of_cut (cut.Into q r) = answer 0 (q ∷ r ∷ []) []
-of_cut (cut.Refused n) = refusing n (answer n (0 ∷ 0 ∷ []) [])
+abbrev pub of_cut : Result Cut Refusal → Answer
+of_cut (Ok c) = answer 0 (c.size ∷ c.rest ∷ []) []
+of_cut (Err r) = refusing 2 r []
 
-abbrev pub of_found : Found → Answer
-of_found (found.Length n) = answer 0 (n ∷ []) []
-of_found (found.Refused n) = refusing n (refused n)
+-- of a find: the item's length
+abbrev pub of_found : Result ℕ Refusal → Answer
+of_found (Ok n) = answer 0 (n ∷ []) []
+of_found (Err r) = refused (number r)
 
-abbrev pub of_totalled : Totalled → Answer
-of_totalled (totalled.Of i p c) = answer 0 (i ∷ p ∷ c ∷ []) []
-of_totalled (totalled.Refused n) = refusing n (answer n (0 ∷ 0 ∷ 0 ∷ []) [])
+abbrev pub of_totals : Result Totals Refusal → Answer
+of_totals (Ok t) = answer 0 (t.items ∷ t.parts ∷ t.charge ∷ []) []
+of_totals (Err r) = refusing 3 r []
 
 -- a view's part of the package is its only answer
 abbrev pub of_view : List ℕ → Answer

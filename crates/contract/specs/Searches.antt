@@ -7,7 +7,7 @@ use Rattle.chars.specs.FoldedNames.{folded_size, common}
 use Rattle.model.specs.Sets.{Bytes, Key, key_order, same_key, Sorted}
 use Rattle.model.specs.Places.{bound}
 use Rattle.model.specs.Package.{State}
-use Rattle.chars.specs.declared.folding.Order.{Order}
+use Rattle.std.specs.declared.cmp.Ordering.{Ordering}
 use Rattle.store.specs.Layout.{count_of}
 use Rattle.store.specs.Rows.{row_at, rows_of}
 use Rattle.store.specs.Packages.{Sound}
@@ -34,7 +34,7 @@ abbrev pub shares : List ℕ → ℕ → Key → ℕ
 shares b i k = common (row_key (row_at b i)).0 k.0
 
 -- o tells how the key of row i stands to the key k, and c how many bytes their texts have in common, if these are not fewer than `from`
-pub record Stands (b : List ℕ) (i : ℕ) (k : Key) (from : ℕ) (o : Order) (c : ℕ) : Type 0 where
+pub record Stands (b : List ℕ) (i : ℕ) (k : Key) (from : ℕ) (o : Ordering) (c : ℕ) : Type 0 where
   pub is : Sound b → i < count_of b → (0 < from → from < shares b i k) → (o ≡ key_order (row_key (row_at b i)) k) × (c ≡ shares b i k - 1)
 
 -- r is the first row whose key is not before k

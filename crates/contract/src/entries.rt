@@ -2,16 +2,17 @@
 ghost use Rattle.std.specs.Prelude.{◌≡◌, ◌+◌, ◌^◌, ◌≤◌, ◌<◌, leb, length};
 ghost use Rattle.chars.specs.FoldedNames.{folded_size};
 ghost use Rattle.model.specs.Calls.{Numbered};
+ghost use Rattle.output.specs.Refusals.{number_of};
 ghost use Rattle.store.specs.Rows.{make_row};
 ghost use Rattle.store.specs.Packages.{Shape};
 ghost use Rattle.contract.specs.Rows.{set_of, key_in};
 ghost use Rattle.contract.specs.Searches.{sought_key, Aimed, Placed};
-ghost use Rattle.contract.specs.Answers.{of_did};
+ghost use Rattle.contract.specs.Answers.{of_done};
 ghost use Rattle.contract.specs.Entries.{Sought, Taken, RowsCounted, SetFull, Roomy, Weighed, Entered, Dropped};
 
-use crate::answers::Did;
 use crate::search::{SearchKey, seek, set_of, set_start};
 use chars::folded::fold_into;
+use output::refusals::Refusal;
 use store::SLOT_COUNT;
 use store::header::{count, free};
 use store::rows::{insert, remove};
@@ -111,11 +112,11 @@ fn has_row_room(
     has_room(free(pkg), a, b, c, d)
 }
 
-// The refusal of a new row of a set, whose key is taken or not: 10, the number of the call's own test, 15, or 0.
-fn row_refusal(
+// Judges a new row of a set, whose key is taken or not: 10, what the call's own test says, 15.
+fn check_row(
     pkg: &[u8],
     taken: bool,
-    own: u8,
+    own: Result<(), Refusal>,
     set: usize,
     limit: usize,
     t: usize,
@@ -123,30 +124,28 @@ fn row_refusal(
     f1: &[u8],
     f2: &[u8],
     f3: &[u8],
-) -> u8
+) -> Result<(), Refusal>
     requires shape { Shape pkg.now × (set ≡ set_of t) }
     requires taken { Taken pkg.now (key_in set f0.now t f1.now) taken }
-    requires numbered { Numbered own }
-    ensures { Weighed pkg.now own limit (make_row t f0.now f1.now f2.now f3.now) result }
+    requires numbered { Numbered (number_of own) }
+    ensures { Weighed pkg.now (number_of own) limit (make_row t f0.now f1.now f2.now f3.now) (number_of result) }
 {
     if taken {
-        return 10;
+        return Err(Refusal::Taken);
     }
-    if own != 0 {
-        return own;
-    }
+    own?;
     if has_row_room(pkg, set, limit, f0.len(), f1.len(), f2.len(), f3.len()) {
-        return 0;
+        return Ok(());
     }
-    15
+    Err(Refusal::Full)
 }
 
-// Puts in a row at its place r, unless its key is taken, the call's own test refuses it by the number own, or there is no room for it.
+// Puts in a row at its place r, unless its key is taken, the call's own test refuses it, or there is no room for it.
 pub fn put_at(
     pkg: &mut [u8],
     r: usize,
     taken: bool,
-    own: u8,
+    own: Result<(), Refusal>,
     set: usize,
     limit: usize,
     t: usize,
@@ -154,36 +153,33 @@ pub fn put_at(
     f1: &[u8],
     f2: &[u8],
     f3: &[u8],
-) -> Did
+) -> Result<(), Refusal>
     requires shape { Shape pkg.old × (set ≡ set_of t) }
     requires placed { Placed pkg.old (key_in set f0.now t f1.now) r taken }
-    requires numbered { Numbered own }
+    requires numbered { Numbered (number_of own) }
     requires f0_nonzero { (0 < length f0.now) × (t < 2 ^ 32) }
-    ensures { Entered pkg.old own limit (make_row t f0.now f1.now f2.now f3.now) (of_did result) pkg.new }
+    ensures { Entered pkg.old (number_of own) limit (make_row t f0.now f1.now f2.now f3.now) (of_done result) pkg.new }
 {
-    let k = row_refusal(pkg, taken, own, set, limit, t, f0, f1, f2, f3);
-    if k != 0 {
-        return Did::Refused(k);
-    }
+    check_row(pkg, taken, own, set, limit, t, f0, f1, f2, f3)?;
     insert(pkg, r, t, f0, f1, f2, f3);
-    Did::Done
+    Ok(())
 }
 
 // The same where the row's place is still to be found.
 pub fn put_row(
     pkg: &mut [u8],
-    own: u8,
+    own: Result<(), Refusal>,
     limit: usize,
     t: usize,
     f0: &[u8],
     f1: &[u8],
     f2: &[u8],
     f3: &[u8],
-) -> Did
+) -> Result<(), Refusal>
     requires shape { Shape pkg.old × (length f0.now ≤ folded_size) }
-    requires numbered { Numbered own }
+    requires numbered { Numbered (number_of own) }
     requires f0_nonzero { (0 < length f0.now) × (t < 2 ^ 32) }
-    ensures { Entered pkg.old own limit (make_row t f0.now f1.now f2.now f3.now) (of_did result) pkg.new }
+    ensures { Entered pkg.old (number_of own) limit (make_row t f0.now f1.now f2.now f3.now) (of_done result) pkg.new }
 {
     let set = set_of(t);
     let mut f = [0; 256];
@@ -201,9 +197,9 @@ pub fn put_row(
 }
 
 // Takes out the row of a key.
-pub fn drop_row(pkg: &mut [u8], set: usize, p: &[u8], id: &[u8]) -> Did
+pub fn drop_row(pkg: &mut [u8], set: usize, p: &[u8], id: &[u8]) -> Result<(), Refusal>
     requires { Shape pkg.old × (length p.now ≤ folded_size) }
-    ensures { Dropped pkg.old (key_in set p.now 0 id.now) (of_did result) pkg.new }
+    ensures { Dropped pkg.old (key_in set p.now 0 id.now) (of_done result) pkg.new }
 {
     let mut f = [0; 256];
     fold_into(&mut f, p);
@@ -216,7 +212,7 @@ pub fn drop_row(pkg: &mut [u8], set: usize, p: &[u8], id: &[u8]) -> Did
     let place = seek(pkg, w, &f, id);
     if place.held {
         remove(pkg, place.row);
-        return Did::Done;
+        return Ok(());
     }
-    Did::Refused(13)
+    Err(Refusal::NotHeld)
 }

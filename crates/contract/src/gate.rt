@@ -1,15 +1,17 @@
 // The gate: what every call but start asks of the lent bytes before all else.
 ghost use Rattle.std.specs.Prelude.{◌≡◌};
+ghost use Rattle.output.specs.Refusals.{number_of};
 ghost use Rattle.contract.specs.Opening.{turned_number};
 
+use output::refusals::Refusal;
 use store::header::is_package;
 
-// 0 where the bytes are let in; 1 where the buffer is no package.
-pub fn opened(pkg: &[u8]) -> u8
-    ensures { result ≡ turned_number pkg.now }
+// Lets the bytes in where they pass the test of a package.
+pub fn check_package(pkg: &[u8]) -> Result<(), Refusal>
+    ensures { number_of result ≡ turned_number pkg.now }
 {
     if is_package(pkg) {
-        return 0;
+        return Ok(());
     }
-    1
+    Err(Refusal::NotAPackage)
 }

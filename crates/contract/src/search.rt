@@ -9,7 +9,8 @@ ghost use Rattle.contract.specs.Searches.{sought_key, Aimed, Stands, Bounded, Pl
 use crate::{DEFAULT_TAG, DEFAULTS, ITEMS, OVERRIDE_TAG, OVERRIDES, RELATIONSHIPS};
 use base::numbers::smaller;
 use chars::folded::{Comparison, compare_past, folded_text};
-use chars::folding::{Order, compare};
+use chars::folding::compare;
+use std::cmp::Ordering;
 use store::header::count;
 use store::rows::{field, head, tag};
 
@@ -29,20 +30,20 @@ pub fn set_of(t: usize) -> usize
     RELATIONSHIPS
 }
 
-fn compare_numbers(x: usize, y: usize) -> Order
+fn compare_numbers(x: usize, y: usize) -> Ordering
     ensures { result ≡ order (x ∷ []) (y ∷ []) }
 {
     if x < y {
-        return Order::Less;
+        return Ordering::Less;
     }
     if y < x {
-        return Order::Greater;
+        return Ordering::Greater;
     }
-    Order::Equal
+    Ordering::Equal
 }
 
 // Where the first texts of two keys of a set are equal: the numbers of items, the ids of relationships.
-fn compare_second(set: usize, u: usize, other: &[u8], t: usize, id: &[u8]) -> Order
+fn compare_second(set: usize, u: usize, other: &[u8], t: usize, id: &[u8]) -> Ordering
     ensures { result ≡ order (second set u other.now) (second set t id.now) }
 {
     if set == ITEMS {
@@ -51,7 +52,7 @@ fn compare_second(set: usize, u: usize, other: &[u8], t: usize, id: &[u8]) -> Or
     if set == RELATIONSHIPS {
         return compare(other, id);
     }
-    Order::Equal
+    Ordering::Equal
 }
 
 // What is sought: an entry of the set, with the text of `length` bytes from `at` on in an array of foldings; of an item also the tag, which tells its
@@ -84,13 +85,13 @@ fn stands(pkg: &[u8], i: usize, w: SearchKey, f: &[u8; 256], id: &[u8], from: us
     let set = w.set;
     if own < set {
         return Comparison {
-            order: Order::Less,
+            order: Ordering::Less,
             common: 0,
         };
     }
     if set < own {
         return Comparison {
-            order: Order::Greater,
+            order: Ordering::Greater,
             common: 0,
         };
     }
@@ -98,7 +99,7 @@ fn stands(pkg: &[u8], i: usize, w: SearchKey, f: &[u8; 256], id: &[u8], from: us
     let e = a + row.length;
     if pkg.len() < e {
         return Comparison {
-            order: Order::Less,
+            order: Ordering::Less,
             common: 0,
         };
     }
@@ -106,16 +107,17 @@ fn stands(pkg: &[u8], i: usize, w: SearchKey, f: &[u8; 256], id: &[u8], from: us
     let at = compare_past(&pkg[a..e], text, from);
     let order = at.order;
     match order {
-        Order::Less => at,
-        Order::Equal => Comparison {
+        Ordering::Less => at,
+        Ordering::Equal => Comparison {
             order: compare_second(set, u, field(pkg, i, 1), w.tag, id),
             common: at.common,
         },
-        Order::Greater => at,
+        Ordering::Greater => at,
     }
 }
 
-// The first row of a set or of a later one, by halving: the tags tell.
+// The first row of a set or of a later one, by halving: the tags tell. By hand, here and below: the library searches slices, and rows are read out of
+// the buffer by their numbers.
 pub fn set_start(pkg: &[u8], set: usize) -> usize
     requires { count_of pkg.now ≤ slot_count }
     ensures { Bounded pkg.now (key_in set [] 0 []) result }
@@ -158,17 +160,17 @@ pub fn seek(pkg: &[u8], w: SearchKey, f: &[u8; 256], id: &[u8]) -> Place
         let common = at.common;
         let order = at.order;
         match order {
-            Order::Less => {
+            Ordering::Less => {
                 lo = mid + 1;
                 below = common;
             }
-            Order::Equal => {
+            Ordering::Equal => {
                 return Place {
                     row: mid,
                     held: true,
                 };
             }
-            Order::Greater => {
+            Ordering::Greater => {
                 hi = mid;
                 above = common;
             }

@@ -9,8 +9,10 @@ use native.Mathlib.Omega.{arith}
 use lib.Dec.{leb}
 use lib.ListN.{length, get_or}
 use borrow.Author.Tests.{le-leb, lt-leb}
+use Rattle.output.specs.Refusals.{number}
+use Rattle.output.specs.declared.refusals.Refusal.{Refusal}
 use Rattle.output.specs.Answers.{Outcome, Text, unless, Answer, answer, refusing, filled}
-use Rattle.output.proofs.Answering.{unless_refused, filled_number, answer_kept}
+use Rattle.output.proofs.Answering.{number_some, unless_refused, filled_number, answer_kept}
 use Rattle.model.specs.Sets.{Bytes}
 use Rattle.model.specs.Fields.{when, first}
 use Rattle.model.specs.Package.{State}
@@ -42,11 +44,16 @@ module _ (S : State) (set position k : ℕ) (l : k < field_count set) where
   late_refused h = by_position true (le-leb (length (listed set S)) position h)
 
 module _ (p : List ℕ) (set position k : ℕ) (out : Bytes) where
-  -- bytes that are turned away by the number n: as by every call with two values and an output
-  pub entry_turned : (n : ℕ) → n ≡ turned_number p → (n ≡ 0 → ⊥) → EntryRan set position k out p (refusing n (answer n (0 ∷ 0 ∷ []) out))
-  entry_turned n e z =
-      let t = turned_away_lem p (TypeOrigin [] out) n refl e z in
-      record { ledger = λ S h. never_turned p S h n e z; kept = λ r. (t.kept r).1; foreign = t.foreign refl; numbered = t.numbered refl }
+  -- bytes that are turned away: as by every call with two values and an output
+  pub entry_turned : (r : Refusal) → number r ≡ turned_number p → EntryRan set position k out p (refusing 2 r out)
+  entry_turned r e =
+      let t = turned_away_lem p (TypeOrigin [] out) r refl e in
+      record {
+        ledger = λ S h. never_turned p S h (number r) e (number_some r);
+        kept = λ z. (t.kept z).1;
+        foreign = t.foreign refl;
+        numbered = t.numbered refl;
+      }
 
   abbrev copied : State → Outcome
   copied S = Text (shown S set position k) (length (listed set S) ∷ [])

@@ -1,7 +1,7 @@
 -- What the call that copies an entry's field promises.
 -- Assumes nothing.
-use Rattle.std.specs.Prelude.{ℕ, ◌≡◌, true, false, List, [], ◌∷◌}
-use Rattle.output.specs.Answers.{Answer, answer, refusing}
+use Rattle.std.specs.Prelude.{ℕ, ◌≡◌, true, false, List, [], ◌∷◌, Result, Ok, Err}
+use Rattle.output.specs.Answers.{Answer, answer, failing}
 use Rattle.model.specs.Sets.{Bytes}
 use Rattle.model.specs.Package.{State}
 use Rattle.model.specs.Calls.{Numbered}
@@ -9,13 +9,12 @@ use Rattle.store.specs.Packages.{is_package}
 use Rattle.contract.specs.Holds.{Holds}
 use Rattle.entries.specs.Listing.{entry_at}
 use Rattle.entries.specs.declared.listing.EntryField.{EntryField}
-use Rattle.entries.specs.declared.listing.EntryField.TheVariants.{Copied, Short, Refused}
+use Rattle.output.specs.declared.refusals.Unwritten.{Unwritten}
 
 -- the number and the values for each case: "A refusal answers its number and 0 for every value (3: the length as the first)"
-abbrev pub of_entry_field : EntryField → List ℕ → Answer
-of_entry_field (Copied n entries) out = answer 0 (n ∷ entries ∷ []) out
-of_entry_field (Short n) out = answer 3 (n ∷ 0 ∷ []) out
-of_entry_field (Refused k) out = refusing k (answer k (0 ∷ 0 ∷ []) out)
+abbrev pub of_entry_field : Result EntryField Unwritten → List ℕ → Answer
+of_entry_field (Ok e) out = answer 0 (e.length ∷ e.entries ∷ []) out
+of_entry_field (Err u) out = failing 2 u out
 
 -- THE PROMISE, in the words of every call's (`Ran`). It looked at the lent bytes p, which are lent for reading alone, and answered a
 pub record EntryRan (set position field : ℕ) (output p : Bytes) (a : Answer) : Type 0 where

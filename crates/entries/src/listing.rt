@@ -8,16 +8,16 @@ ghost use Rattle.entries.specs.RowTexts.{row_field, RowCopied};
 
 use base::moves::copy_in;
 use contract::EXTERNAL_TAG;
-use contract::gate::opened;
+use contract::gate::check_package;
 use contract::search::set_start;
+use output::refusals::{Refusal, Unwritten};
 use store::rows::{field, tag};
 
 // The answer: the field's length, and how many entries the set has.
-#[derive(Drop)]
-pub enum EntryField {
-    Copied { length: usize, entries: usize },
-    Short(usize),
-    Refused(u8),
+#[derive(Clone, Copy)]
+pub struct EntryField {
+    pub length: usize,
+    pub entries: usize,
 }
 
 // How many fields the entries of a set have: none where there is no such set.
@@ -47,21 +47,28 @@ fn row_field(set: u64, k: u64) -> usize
 }
 
 // Copies two texts, one behind the other, as the field of an entry of a set that has n entries.
-fn put_field(a: &[u8], b: &[u8], n: usize, out: &mut [u8]) -> EntryField
+fn put_field(a: &[u8], b: &[u8], n: usize, out: &mut [u8]) -> Result<EntryField, Unwritten>
     requires { (length a.now < 2 ^ 32) × (length b.now < 2 ^ 32) }
     ensures { of_entry_field result out.new ≡ filled 2 out.old (Text (a.now ++ b.now) (n ∷ [])) }
 {
     let length = a.len() + b.len();
     if out.len() < length {
-        return EntryField::Short(length);
+        return Err(Unwritten::TooShort(length));
     }
     copy_in(out, 0, a);
     copy_in(out, a.len(), b);
-    EntryField::Copied { length, entries: n }
+    Ok(EntryField { length, entries: n })
 }
 
 // Copies the field k of the entry in row r. An item's name lies in two fields, and the tag tells a relationship's mode.
-fn put_row_field(pkg: &[u8], r: usize, set: u64, k: u64, n: usize, out: &mut [u8]) -> EntryField
+fn put_row_field(
+    pkg: &[u8],
+    r: usize,
+    set: u64,
+    k: u64,
+    n: usize,
+    out: &mut [u8],
+) -> Result<EntryField, Unwritten>
     requires { (r < count_of pkg.now) × (k < field_count set) }
     ensures { RowCopied pkg.now r set k n out.old (of_entry_field result out.new) }
 {
@@ -78,25 +85,28 @@ fn put_row_field(pkg: &[u8], r: usize, set: u64, k: u64, n: usize, out: &mut [u8
 }
 
 // Copies the field k of the entry at a position of a set, in the order of its keys.
-pub fn entry_at(pkg: &[u8], set: u64, position: u64, k: u64, out: &mut [u8]) -> EntryField
+pub fn entry_at(
+    pkg: &[u8],
+    set: u64,
+    position: u64,
+    k: u64,
+    out: &mut [u8],
+) -> Result<EntryField, Unwritten>
     ensures { EntryRan set position k out.old pkg.now (of_entry_field result out.new) }
 {
-    let n = opened(pkg);
-    if n != 0 {
-        return EntryField::Refused(n);
-    }
+    check_package(pkg)?;
     if field_count(set) <= k {
-        return EntryField::Refused(8);
+        return Err(Unwritten::Refused(Refusal::BadRelationshipField));
     }
     let s = set as usize;
     let from = set_start(pkg, s);
     let to = set_start(pkg, s + 1);
     if to as u64 <= position {
-        return EntryField::Refused(13);
+        return Err(Unwritten::Refused(Refusal::NotHeld));
     }
     let r = from + position as usize;
     if to <= r {
-        return EntryField::Refused(13);
+        return Err(Unwritten::Refused(Refusal::NotHeld));
     }
     put_row_field(pkg, r, set, k, to - from, out)
 }

@@ -10,7 +10,8 @@ use crate::split::{Parts, split};
 use base::bytes::byte_at;
 use chars::search::find_past;
 use names::iris::{is_iri, is_package_iri};
-use output::writing::{Written, emit};
+use output::refusals::{Refusal, Unwritten};
+use output::writing::emit;
 
 // 5.2.3, for a reference with a path and neither scheme nor authority; authority: the base has one.
 fn merge(authority: bool, base: &[u8], r: &[u8], out: &mut [u8]) -> usize
@@ -120,18 +121,18 @@ pub fn put_reference(base: &[u8], reference: &[u8], out: &mut [u8]) -> usize
 }
 
 // An external target, resolved against a package IRI.
-pub fn resolve_reference(base: &[u8], reference: &[u8], out: &mut [u8]) -> Written
+pub fn resolve_reference(base: &[u8], reference: &[u8], out: &mut [u8]) -> Result<usize, Unwritten>
     ensures { of_written result out.new ≡ written (resolve_reference base.now reference.now) out.old }
 {
     if !is_package_iri(base) {
-        return Written::Refused(9);
+        return Err(Unwritten::Refused(Refusal::BadTarget));
     }
     if !is_iri(reference) {
-        return Written::Refused(9);
+        return Err(Unwritten::Refused(Refusal::BadTarget));
     }
     let need = put_reference(base, reference, out);
     if out.len() < need {
-        return Written::Short(need);
+        return Err(Unwritten::TooShort(need));
     }
-    Written::Bytes(need)
+    Ok(need)
 }

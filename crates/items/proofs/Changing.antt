@@ -17,6 +17,9 @@ use Rattle.model.specs.Puts.{with_items, put_item_refusal, drop_item_refusal, mi
 use Rattle.model.specs.Calls.{Changes, PutItem, DropItem, done, refused, changed, change}
 use Rattle.names.proofs.Lengths.{part_name_size}
 use Rattle.output.specs.Answers.{Answer}
+use Rattle.output.specs.Refusals.{number}
+use Rattle.output.specs.declared.refusals.Refusal.{Refusal}
+use Rattle.output.proofs.Answering.{number_some}
 use Rattle.model.proofs.Numbers.{numbered}
 use Rattle.model.proofs.Rows.{rows_remove}
 use Rattle.model.proofs.ItemNames.{accepted_prefix}
@@ -25,8 +28,6 @@ use Rattle.store.specs.Layout.{count_of}
 use Rattle.store.specs.Rows.{Row, make_row, remove_at}
 use Rattle.store.specs.Packages.{Sound, Removed}
 use Rattle.contract.specs.Rows.{tag_of, set_of, item_row, other_rows, rows_for, item_rows}
-use Rattle.contract.specs.Answers.{of_did}
-use Rattle.contract.specs.declared.answers.Did.TheVariants as did
 use Rattle.contract.specs.Holds.{Lies, Holds}
 use Rattle.contract.specs.Ran.{Ran}
 use Rattle.contract.specs.Opening.{Open}
@@ -35,11 +36,9 @@ use Rattle.contract.proofs.Rans.{field_refused, change_refused, change_made_lem,
 use Rattle.contract.specs.Entries.{Entered}
 use Rattle.contract.proofs.RowKinds.{item_rows_lem}
 use Rattle.contract.proofs.SetCalls.{Putting, put_refused as set_put_refused, put_ran as set_put}
-use Rattle.items.specs.Wants.{wanted, Located}
+use Rattle.items.specs.Wants.{Located}
 use Rattle.items.specs.Clashes.{Misfitting}
-use Rattle.items.specs.declared.wanted.Wanted.{Wanted}
-use Rattle.items.specs.declared.wanted.Wanted.TheVariants.{Named, Refused}
-use Rattle.items.proofs.Naming.{wanted_named, wanted_refused, prefix_take}
+use Rattle.items.proofs.Naming.{prefix_take}
 
 -- DROP
 drop_named : (S : State) (s : Bytes) (k : ℕ) → item_field s ≡ k → (k ≡ 0 → ⊥) → drop_item_refusal S s ≡ k
@@ -82,39 +81,31 @@ unfolding item_row
 made_row s bytes n t en et = rw (take_rest s n, prefix_take s n en, et, en)
 
 -- AN ACCEPTED NAME
-module _ (s : Bytes) (w : Wanted) (ew : w ≡ wanted (item_field s) s) (n t : ℕ) (en : w ≡ Named n t) where
-  pub named_is : (n ≡ length (prefix_of s)) × (t ≡ tag_of (suffix_of s)) × (item_field s ≡ 0)
-  named_is = wanted_named (item_field s) s w ew n t en
-
+module _ (s : Bytes) (n t : ℕ) (named : (n ≡ length (prefix_of s)) × (t ≡ tag_of (suffix_of s)) × (item_field s ≡ 0)) where
   pub named_few : n ≤ 256
-  named_few = omega (arith, named_is.0, part_name_size (prefix_of s) (accepted_prefix s named_is.2).0)
+  named_few = omega (arith, named.0, part_name_size (prefix_of s) (accepted_prefix s named.2).0)
 
   pub named_some : 0 < length (take n s)
-  named_some = rw (prefix_take s n named_is.0) (omega (arith, part_name_size (prefix_of s) (accepted_prefix s named_is.2).0))
+  named_some = rw (prefix_take s n named.0) (omega (arith, part_name_size (prefix_of s) (accepted_prefix s named.2).0))
 
   pub named_tag : t < 2 ^ 32
-  named_tag = omega (arith, named_is.1, tag_small s)
+  named_tag = omega (arith, named.1, tag_small s)
 
   pub named_set : 0 ≡ set_of t
-  named_set = sym (tag_set t (omega (arith, named_is.1, tag_small s)))
+  named_set = sym (tag_set t (omega (arith, named.1, tag_small s)))
 
 -- EACH WAY OUT
-module _ (p : Bytes) (ok : Open p) (s : Bytes) (w : Wanted) (ew : w ≡ wanted (item_field s) s) where
-  pub drop_refused : (k : ℕ) → w ≡ Refused k → Ran (Changes (DropItem s)) p (of_did (did.Refused k)) p
-  drop_refused k e =
-      let z = wanted_refused (item_field s) s w ew k e in
-      field_refused p ok (DropItem s) k z.1 (λ S. drop_named S s k z.0 z.1)
+module _ (p : Bytes) (ok : Open p) (s : Bytes) where
+  module _ (r : Refusal) (e : number r ≡ item_field s) where
+    pub drop_refused : Ran (Changes (DropItem s)) p (refused (number r)) p
+    drop_refused = field_refused p ok (DropItem s) r (λ S. drop_named S s (number r) (sym e) (number_some r))
 
-  pub put_refused : (bytes : Bytes) (k : ℕ) → w ≡ Refused k → Ran (Changes (PutItem s bytes)) p (of_did (did.Refused k)) p
-  put_refused bytes k e =
-      let z = wanted_refused (item_field s) s w ew k e in
-      set_put_refused item_rows item_rows_lem p ok (PutItem s bytes) k (record { name = s; bytes = bytes }) (λ S. misfits s S.items)
-      (putting s bytes) (sym z.0) z.1
+    pub put_refused : (bytes : Bytes) → Ran (Changes (PutItem s bytes)) p (refused (number r)) p
+    put_refused bytes =
+        set_put_refused item_rows item_rows_lem p ok (PutItem s bytes) (record { name = s; bytes = bytes }) (λ S. misfits s S.items)
+        (putting s bytes) r e
 
-  module _ (n t : ℕ) (en : w ≡ Named n t) where
-    named : (n ≡ length (prefix_of s)) × (t ≡ tag_of (suffix_of s)) × (item_field s ≡ 0)
-    named = named_is s w ew n t en
-
+  module _ (n t : ℕ) (named : (n ≡ length (prefix_of s)) × (t ≡ tag_of (suffix_of s)) × (item_field s ≡ 0)) where
     module _ (r m : ℕ) (er : Located p s r) (em : m ≡ count_of p) where
       pub drop_missing : m ≤ r → Ran (Changes (DropItem s)) p (refused 13) p
       drop_missing l = change_refused p ok (DropItem s) 13 (numbered 13 (omega arith) (omega arith))
@@ -142,6 +133,6 @@ module _ (p : Bytes) (ok : Open p) (s : Bytes) (w : Wanted) (ew : w ≡ wanted (
     pub put_ran : (bytes : Bytes) (k : ℕ) → Misfitting p s k → (a : Answer) (q : Bytes) → length q ≡ length p →
         Entered p k 256 (make_row t (take n s) (take (length s - n) (drop n s)) bytes []) a q → Ran (Changes (PutItem s bytes)) p a q
     put_ran bytes k ek a q lq w =
-        set_put item_rows item_rows_lem p ok (PutItem s bytes) 0 (record { name = s; bytes = bytes }) (λ S. misfits s S.items)
-        (putting s bytes) (sym named.2) refl k ek.is a q lq
+        set_put item_rows item_rows_lem p ok (PutItem s bytes) (record { name = s; bytes = bytes }) (λ S. misfits s S.items)
+        (putting s bytes) (sym named.2) k ek.is a q lq
         (subst (λ (x : Row). Entered p k 256 x a q) (made_row s bytes n t named.0 named.1) w)

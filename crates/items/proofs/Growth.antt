@@ -13,8 +13,8 @@ use Rattle.chars.specs.Bytes.{slash}
 use Rattle.chars.specs.Lists.{same, begins}
 use Rattle.chars.specs.Folding.{lower, fold, equivalent, derivable, order}
 use Rattle.chars.specs.FoldedNames.{common}
-use Rattle.chars.specs.declared.folding.Order.{Order}
-use Rattle.chars.specs.declared.folding.Order.TheVariants.{Less, Equal, Greater}
+use Rattle.std.specs.declared.cmp.Ordering.{Ordering}
+use Rattle.std.specs.declared.cmp.Ordering.TheVariants.{Less, Equal, Greater}
 use Rattle.base.proofs.Bools.{and_right, and_true, not_passing}
 use Rattle.chars.proofs.Orders.{order_equal, order_less}
 use Rattle.chars.proofs.Derivability.{begins_split, begins_append, derivable_longer, derivable_split, derivable_join, derivable_is, derivable_irrefl}
@@ -45,7 +45,7 @@ less_append (y ∷ t) x r = rw (le-ltb y y (omega arith)) (less_append t x r)
 between_begins : (t a c : List ℕ) → (order a t ≡ Less → ⊥) → (order a c ≡ Greater → ⊥) → begins t c ≡ true → begins t a ≡ true
 between_begins t a c h g e = go (order a c) refl
   where
-    go : (o : Order) → order a c ≡ o → begins t a ≡ true
+    go : (o : Ordering) → order a c ≡ o → begins t a ≡ true
     go Less f = begins_between t a c h f e
     go Equal f = ap (begins t) (order_equal a c f) ∙ e
     go Greater f = absurd (g f)

@@ -1,16 +1,20 @@
 -- Find and view: each way out.
 -- Assumes nothing.
 use Prim.Native.Nat.{ℕ, ◌≤◌, ◌<◌}
-use mathlib.Core.Path.{◌≡◌, refl, ◌∙◌, subst}
+use mathlib.Core.Path.{◌≡◌, refl, sym, ◌∙◌, subst}
+use mathlib.Core.Bool.{Bool, true, false}
 use mathlib.Core.List.{[], ◌∷◌}
 use mathlib.Core.Option.{none, some}
 use native.Mathlib.Omega.{arith}
 use lib.ListN.{length, get_or}
 use borrow.Author.Tests.{ne_eqb}
 use Rattle.output.specs.Answers.{answer}
-use Rattle.output.proofs.Answering.{refusing_is}
+use Rattle.std.specs.Prelude.{Result, Ok, Err, is_err}
+use Rattle.output.specs.Refusals.{number, number_of}
+use Rattle.output.specs.declared.refusals.Refusal.{Refusal}
+use Rattle.output.proofs.Answering.{number_some, err_none}
 use Rattle.model.specs.Sets.{Bytes}
-use Rattle.model.specs.Fields.{first, prefix_of, suffix_of, asked_field}
+use Rattle.model.specs.Fields.{first, prefix_of, asked_field}
 use Rattle.model.specs.Package.{no_item, State, Item, item_at}
 use Rattle.model.specs.Calls.{Numbered, Looks, Find, View, refused, asked_refusal, look}
 use Rattle.names.proofs.Lengths.{part_name_size}
@@ -19,18 +23,14 @@ use Rattle.model.proofs.Numbers.{numbered, zero_numbered, asked_field_numbered}
 use Rattle.store.specs.Layout.{count_of}
 use Rattle.store.specs.Rows.{row_at, field_of}
 use Rattle.store.specs.Packages.{Sound}
-use Rattle.contract.specs.Rows.{tag_of}
-use Rattle.contract.specs.Answers.{of_found, of_view}
-use Rattle.contract.specs.declared.answers.Found.TheVariants as found
+use Rattle.contract.specs.Answers.{of_view}
 use Rattle.contract.specs.Holds.{Holds}
 use Rattle.contract.specs.Ran.{Ran}
-use Rattle.contract.specs.Opening.{Open}
+use Rattle.contract.specs.Opening.{turned_number, Open}
+use Rattle.contract.proofs.Opening.{turned_away_lem, let_in}
 use Rattle.contract.proofs.Rans.{looked}
 use Rattle.contract.proofs.ItemRows.{item_bytes}
-use Rattle.items.specs.Wants.{wanted, Located}
-use Rattle.items.specs.declared.wanted.Wanted.{Wanted}
-use Rattle.items.specs.declared.wanted.Wanted.TheVariants.{Named, Refused}
-use Rattle.items.proofs.Naming.{wanted_named, wanted_refused}
+use Rattle.items.specs.Wants.{Located}
 
 -- THE ANSWERS
 asked_first : (S : State) (s : Bytes) (k : ℕ) → asked_field s ≡ k → (k ≡ 0 → ⊥) → asked_refusal S s ≡ k
@@ -61,29 +61,33 @@ view_yes : (S : State) (s : Bytes) (i : Item) (f : Bytes) → asked_refusal S s 
 unfolding look
 view_yes S s i f e z g = rw (e, z, g)
 
-pub asked_is : (s : Bytes) (w : Wanted) → w ≡ wanted (asked_field s) s → (n t : ℕ) → w ≡ Named n t
-    → (n ≤ 256) × (n ≡ length (prefix_of s)) × (t ≡ tag_of (suffix_of s))
-asked_is s w ew n t en =
-    let z = wanted_named (asked_field s) s w ew n t en in
-    (omega (arith, z.0, part_name_size (prefix_of s) (asked_prefix s z.2)), z.0, z.1)
+pub asked_few : (s : Bytes) → asked_field s ≡ 0 → length (prefix_of s) ≤ 256
+asked_few s e = omega (arith, part_name_size (prefix_of s) (asked_prefix s e))
+
+-- THE GATE of a view, whose refusal has no number: t tells whether the test x refuses
+module _ (p : Bytes) (x : Result Unit Refusal) (ex : number_of x ≡ turned_number p) (t : Bool) (et : t ≡ is_err x) where
+  pub view_turned : t ≡ true → (s : Bytes) → Ran (Looks (View s)) p (of_view []) p
+  view_turned e s = go x ex (sym et ∙ e)
+    where
+      go : (y : Result Unit Refusal) → number_of y ≡ turned_number p → is_err y ≡ true → Ran (Looks (View s)) p (of_view []) p
+      go (Ok u) f g = absurd (cc g)
+      go (Err r) f g = turned_away_lem p (Looks (View s)) r refl f
+
+  pub view_open : t ≡ false → Open p
+  view_open e = let_in p (sym (err_none x (sym et ∙ e)) ∙ ex)
 
 -- EACH WAY OUT
-module _ (p : Bytes) (ok : Open p) (s : Bytes) (w : Wanted) (ew : w ≡ wanted (asked_field s) s) where
-  pub find_refused : (k : ℕ) → w ≡ Refused k → Ran (Looks (Find s)) p (of_found (found.Refused k)) p
-  find_refused k e =
-      let z = wanted_refused (asked_field s) s w ew k e in
-      rw (refusing_is k z.1 (refused k)) (looked p ok (Find s) (refused k) (subst Numbered z.0 (asked_field_numbered s)) (λ _. refl)
-      (λ S h. find_no S s k (asked_first S s k z.0 z.1) z.1))
+module _ (p : Bytes) (ok : Open p) (s : Bytes) where
+  module _ (r : Refusal) (e : number r ≡ asked_field s) where
+    pub find_refused : Ran (Looks (Find s)) p (refused (number r)) p
+    find_refused = looked p ok (Find s) (refused (number r)) (subst Numbered (sym e) (asked_field_numbered s)) (λ _. refl)
+        (λ S h. find_no S s (number r) (asked_first S s (number r) (sym e) (number_some r)) (number_some r))
 
-  pub view_refused : (k : ℕ) → w ≡ Refused k → Ran (Looks (View s)) p (of_view []) p
-  view_refused k e =
-      let z = wanted_refused (asked_field s) s w ew k e in
-      looked p ok (View s) (of_view []) zero_numbered (λ _. refl) (λ S h. view_no S s k (asked_first S s k z.0 z.1) z.1)
+    pub view_refused : Ran (Looks (View s)) p (of_view []) p
+    view_refused = looked p ok (View s) (of_view []) zero_numbered (λ _. refl)
+        (λ S h. view_no S s (number r) (asked_first S s (number r) (sym e) (number_some r)) (number_some r))
 
-  module _ (n t : ℕ) (en : w ≡ Named n t) (r m : ℕ) (er : Located p s r) (em : m ≡ count_of p) where
-    accepted : asked_field s ≡ 0
-    accepted = (wanted_named (asked_field s) s w ew n t en).2
-
+  module _ (accepted : asked_field s ≡ 0) (r m : ℕ) (er : Located p s r) (em : m ≡ count_of p) where
     missed : (S : State) → Holds p S → m ≤ r → asked_refusal S s ≡ 13
     missed S h l = asked_missing S s accepted ((er.is S h).missing (omega arith))
 

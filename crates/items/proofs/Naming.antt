@@ -1,14 +1,17 @@
 -- A name taken apart: the prefix's length and the tag, or the refusal.
 -- Assumes nothing.
 use Prim.Native.Nat.{ℕ, zero, suc, ◌≤◌, ◌<◌}
-use mathlib.Core.Path.{◌≡◌, refl, ap, ap₂, sym, ◌∙◌}
-use mathlib.Core.Bool.{Bool, true, false, cond, true≢false}
+use mathlib.Core.Path.{◌≡◌, refl, ap, sym, ◌∙◌}
+use mathlib.Core.Bool.{Bool, true, false}
 use mathlib.Core.List.{[], ◌∷◌}
 use native.Mathlib.Omega.{arith}
-use lib.Dec.{eqb}
 use lib.ListN.{length, take}
 use lib.Seq.{length-take-le, take-length}
-use borrow.Author.Tests.{ne_eqb, eqb-true, eqb-false}
+use borrow.Author.Tests.{ne_eqb}
+use Rattle.std.specs.Prelude.{Ok}
+use Rattle.output.specs.declared.refusals.Refusal.{Refusal}
+use Rattle.output.specs.Refusals.{number}
+use Rattle.output.proofs.Answering.{number_some}
 use Rattle.names.specs.Names.{reserved}
 use Rattle.names.specs.Items.{item_name, item_refusal}
 use Rattle.names.specs.declared.items.Suffix.{Suffix}
@@ -16,32 +19,23 @@ use Rattle.names.specs.declared.items.ItemName.{ItemName}
 use Rattle.names.specs.declared.items.ItemName.TheVariants as apart
 use Rattle.model.specs.Sets.{Bytes}
 use Rattle.model.specs.Fields.{first, prefix_in, prefix_of, suffix_of, asked_field, item_field}
-use Rattle.model.proofs.ItemNames.{prefix_named, suffix_named, prefix_part, refused_number}
+use Rattle.model.proofs.ItemNames.{prefix_named, suffix_named, prefix_part}
 use Rattle.contract.specs.Rows.{tag_of, default_tag}
 use Rattle.contract.proofs.RowKeys.{tag_small}
 use Rattle.contract.proofs.RowKinds.{prefix_le}
 use Rattle.items.specs.Wants.{wanted}
-use Rattle.items.specs.declared.wanted.Wanted.{Wanted}
-use Rattle.items.specs.declared.wanted.Wanted.TheVariants.{Named, Refused}
 
--- MAKING IT
 module _ (s : Bytes) (i : ItemName) (e : i ≡ item_name s) where
-  module _ (k r : ℕ) (f : i ≡ apart.Refused k) (g : r ≡ item_refusal i) where
-    is_k : r ≡ k
-    is_k = g ∙ ap item_refusal f
+  pub refused_some : (r : Refusal) → i ≡ apart.Refused r → item_refusal i ≡ 0 → ⊥
+  refused_some r f z = number_some r (sym (ap item_refusal f) ∙ z)
 
-    asked_k : asked_field s ≡ r
-    asked_k = sym (g ∙ ap item_refusal e)
+  module _ (r : Refusal) (g : number r ≡ item_refusal i) where
+    pub asked_refused : number r ≡ asked_field s
+    asked_refused = g ∙ ap item_refusal e
 
-    not_0 : r ≡ 0 → ⊥
-    not_0 z = refused_number s k (sym e ∙ f) (sym is_k ∙ z)
-
-    pub asked_refused : Refused r ≡ wanted (asked_field s) s
-    asked_refused = rw (asked_k, ne_eqb r 0 not_0)
-
-    pub strict_refused : Refused r ≡ wanted (item_field s) s
+    pub strict_refused : number r ≡ item_field s
     unfolding item_field first
-    strict_refused = rw (asked_k, ne_eqb r 0 not_0, ne_eqb r 0 not_0)
+    strict_refused = rw (← asked_refused, ne_eqb (number r) 0 (number_some r))
 
   module _ (n : ℕ) (x : Suffix) (f : i ≡ apart.Named n x) where
     named : item_name s ≡ apart.Named n x
@@ -56,58 +50,32 @@ module _ (s : Bytes) (i : ItemName) (e : i ≡ item_name s) where
     pub named_small : tag_of x < default_tag
     named_small = rw (suffix_named s n x named) at (tag_small s)
 
+    prefix_is : n ≡ length (prefix_of s)
+    prefix_is = named_slice ∙ ap length (sym (prefix_named s n x named))
+
+    tag_is : (t : ℕ) → t ≡ tag_of x → t ≡ tag_of (suffix_of s)
+    tag_is t g = g ∙ ap tag_of (sym (suffix_named s n x named))
+
     asked_0 : asked_field s ≡ 0
     asked_0 = ap item_refusal named
 
-    whole_is : (t : ℕ) → t ≡ tag_of x → Named n t ≡ Named (length (prefix_of s)) (tag_of (suffix_of s))
-    whole_is t g = ap₂ Named (named_slice ∙ ap length (sym (prefix_named s n x named))) (g ∙ ap tag_of (sym (suffix_named s n x named)))
-
-    pub asked_named : (t : ℕ) → t ≡ tag_of x → Named n t ≡ wanted (asked_field s) s
-    asked_named t g = rw (asked_0) (whole_is t g)
+    pub asked_named : (t : ℕ) → t ≡ tag_of x → wanted (asked_field s) s (Ok (record { prefix = n; tag = t }))
+    asked_named t g = (prefix_is, tag_is t g, asked_0)
 
     module _ (z : Bool) (w : z ≡ reserved (take n s)) where
       reserved_is : reserved (prefix_of s) ≡ z
       reserved_is = ap reserved (prefix_named s n x named) ∙ sym w
 
-      pub strict_reserved : z ≡ true → Refused 5 ≡ wanted (item_field s) s
+      pub strict_reserved : z ≡ true → 5 ≡ item_field s
       unfolding item_field first
       strict_reserved y = rw (asked_0, reserved_is, y)
 
-      pub strict_named : (t : ℕ) → t ≡ tag_of x → z ≡ false → Named n t ≡ wanted (item_field s) s
+      strict_0 : z ≡ false → item_field s ≡ 0
       unfolding item_field first
-      strict_named t g y = rw (asked_0, reserved_is, y) (whole_is t g)
+      strict_0 y = rw (asked_0, reserved_is, y)
 
--- TAKING IT APART AGAIN
-abbrev length_in : Wanted → ℕ
-length_in (Named n t) = n
-length_in (Refused k) = 0
-
-abbrev tag_in : Wanted → ℕ
-tag_in (Named n t) = t
-tag_in (Refused k) = 0
-
-abbrev number_in : Wanted → ℕ
-number_in (Named n t) = 0
-number_in (Refused k) = k
-
-abbrev is_named : Wanted → Bool
-is_named (Named n t) = true
-is_named (Refused k) = false
-
-module _ (k : ℕ) (s : Bytes) (w : Wanted) (f : w ≡ wanted k s) where
-  pub wanted_named : (n t : ℕ) → w ≡ Named n t → (n ≡ length (prefix_of s)) × (t ≡ tag_of (suffix_of s)) × (k ≡ 0)
-  wanted_named n t e = go (eqb k 0) refl (sym e ∙ f)
-    where
-      go : (x : Bool) → eqb k 0 ≡ x → Named n t ≡ cond x (Named (length (prefix_of s)) (tag_of (suffix_of s))) (Refused k) → (n ≡ length (prefix_of s)) × (t ≡ tag_of (suffix_of s)) × (k ≡ 0)
-      go true i g = (ap length_in g, ap tag_in g, eqb-true k 0 i)
-      go false i g = absurd (true≢false (ap is_named g))
-
-  pub wanted_refused : (j : ℕ) → w ≡ Refused j → (k ≡ j) × (j ≡ 0 → ⊥)
-  wanted_refused j e = go (eqb k 0) refl (sym e ∙ f)
-    where
-      go : (x : Bool) → eqb k 0 ≡ x → Refused j ≡ cond x (Named (length (prefix_of s)) (tag_of (suffix_of s))) (Refused k) → (k ≡ j) × (j ≡ 0 → ⊥)
-      go true i g = absurd (true≢false (sym (ap is_named g)))
-      go false i g = (sym (ap number_in g), (λ z. eqb-false k 0 i (sym (ap number_in g) ∙ z)))
+      pub strict_named : (t : ℕ) → t ≡ tag_of x → z ≡ false → wanted (item_field s) s (Ok (record { prefix = n; tag = t }))
+      strict_named t g y = (prefix_is, tag_is t g, strict_0 y)
 
 -- THE PREFIX AS A SLICE
 take_take_length : (j : ℕ) (s : Bytes) → take (length (take j s)) s ≡ take j s

@@ -1,12 +1,13 @@
 -- Tags of items: what they tell of the suffix.
 -- Assumes nothing.
-use Prim.Native.Nat.{ℕ, suc, ◌+◌, ◌*◌, ◌%◌, ◌<◌}
+use Prim.Native.Nat.{ℕ, suc, ◌+◌, ◌*◌, ◌%◌, ◌≤◌, ◌<◌}
 use mathlib.Core.Path.{◌≡◌, refl, sym, ◌∙◌}
 use mathlib.Core.Bool.{Bool, true, false, not, ◌&&◌, ◌||◌, cond}
 use native.Mathlib.Numerals.{add-one}
 use native.Mathlib.Omega.{arith}
 use lib.Dec.{ltb, eqb}
 use borrow.Author.Tests.{ltb-true, ltb-false, lt-ltb, le-ltb, eq-eqb, ne_eqb}
+use mir.Val.{bool_byte}
 use Rattle.names.specs.declared.items.Suffix.{Suffix}
 use Rattle.names.specs.declared.items.Suffix.TheVariants.{Whole, Piece}
 use Rattle.model.specs.Fields.{last}
@@ -53,5 +54,10 @@ tags_disagree_is x y = rw (tag_zero x, tag_zero y, tag_odd x, tag_odd y, tag_hal
 pub piece_fits : (x : Suffix) (k : ℕ) (l : Bool) → tag_of x < default_tag → x ≡ Piece k l → 2 * suc k < default_tag
 piece_fits x k l h e = let g : 2 * suc k + cond l 1 0 < default_tag = rw e at h in omega arith
 
-pub tag_piece : (x : Suffix) (k : ℕ) (l : Bool) (r : ℕ) → x ≡ Piece k l → r ≡ cond l 1 0 → 2 * (k + 1) + r ≡ tag_of x
-tag_piece x k l r e f = rw (e, f, add-one)
+pub mark_few : (l : Bool) (r : ℕ) → r ≡ bool_byte l → r ≤ 1
+mark_few true r e = omega arith
+mark_few false r e = omega arith
+
+pub tag_piece : (x : Suffix) (k : ℕ) (l : Bool) (r : ℕ) → x ≡ Piece k l → r ≡ bool_byte l → 2 * (k + 1) + r ≡ tag_of x
+tag_piece x k true r e f = rw (e, f, add-one k)
+tag_piece x k false r e f = rw (e, f, add-one k)

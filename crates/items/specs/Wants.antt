@@ -1,7 +1,9 @@
 -- A name that a call is given, taken apart; and where its item stands. These are promises of inner functions.
 -- Assumes nothing.
-use Rattle.std.specs.Prelude.{ℕ, ◌≤◌, ◌<◌, ◌≡◌, cond, List, eqb, length, get_or}
+use Rattle.std.specs.Prelude.{ℕ, ◌≤◌, ◌<◌, ◌≡◌, List, length, get_or, Result, Ok, Err}
 use Rattle.std.proofs.Math.Option.{none, some}
+use Rattle.output.specs.declared.refusals.Refusal.{Refusal}
+use Rattle.output.specs.Refusals.{number}
 use Rattle.model.specs.Sets.{Bytes}
 use Rattle.model.specs.Fields.{prefix_of, suffix_of}
 use Rattle.model.specs.Package.{State, no_item, item_key, key_of_item, item_at}
@@ -10,11 +12,11 @@ use Rattle.store.specs.Layout.{count_of}
 use Rattle.contract.specs.Rows.{tag_of}
 use Rattle.contract.specs.Holds.{Holds}
 use Rattle.items.specs.declared.wanted.Wanted.{Wanted}
-use Rattle.items.specs.declared.wanted.Wanted.TheVariants.{Named, Refused}
 
--- by the refusal k of the name: 0 for none
-abbrev pub wanted : ℕ → Bytes → Wanted
-wanted k s = cond (eqb k 0) (Named (length (prefix_of s)) (tag_of (suffix_of s))) (Refused k)
+-- w is the answer to a name with the refusal k, 0 for none
+abbrev pub wanted : ℕ → Bytes → Result Wanted Refusal → Type 0
+wanted k s (Ok w) = (w.prefix ≡ length (prefix_of s)) × (w.tag ≡ tag_of (suffix_of s)) × (k ≡ 0)
+wanted k s (Err r) = number r ≡ k
 
 -- row r is that of the item which the name s asks for; past the last row if there is none
 pub record Found (b : List ℕ) (s : Bytes) (S : State) (r : ℕ) : Type 0 where

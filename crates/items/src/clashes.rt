@@ -3,6 +3,7 @@ ghost use Rattle.std.specs.Prelude.{◌≡◌, ◌≤◌, ◌<◌, [], length, t
 ghost use Rattle.chars.specs.Folding.{fold};
 ghost use Rattle.chars.specs.FoldedNames.{HoldsFolding};
 ghost use Rattle.model.specs.Fields.{prefix_of, suffix_of};
+ghost use Rattle.output.specs.Refusals.{number_of};
 ghost use Rattle.model.specs.Package.{grows};
 ghost use Rattle.store.specs.Layout.{count_of};
 ghost use Rattle.contract.specs.Rows.{tag_of, key_in};
@@ -11,6 +12,7 @@ ghost use Rattle.items.specs.Clashes.{tags_disagree, Grown, Parted, extends, Ext
 
 use base::bytes::byte_at;
 use chars::folded::{folded_text, folds_to, shared_start};
+use output::refusals::Refusal;
 use store::rows::{field, tag};
 
 // The suffixes of two items of one group disagree, by their tags.
@@ -51,12 +53,10 @@ fn has_grown(pkg: &[u8], n: usize, f: &[u8; 256], p: &[u8]) -> bool
     ensures { Grown pkg.now n p.now result }
 {
     let w = folded_text(f, 0, p.len());
-    let mut i = 0;
-    while i < n {
+    for i in 0..n {
         if is_grown(w, field(pkg, i, 0)) {
             return true;
         }
-        i += 1;
     }
     false
 }
@@ -123,9 +123,9 @@ fn is_opposed_before(pkg: &[u8], r: usize, m: usize, f: &[u8; 256], p: &[u8], t:
     is_opposed(pkg, r - 1, m, f, p, t)
 }
 
-// 12, 11 or 0, for a new item whose key is not taken and that would be row r of m items: only the rows beside r can disagree with it, and
-// mostly they show that no prefix is derivable from its prefix, or that from one.
-pub(crate) fn misfit_of(
+// Judges a new item whose key is not taken and that would be row r of m items: only the rows beside r can disagree with it (12), and
+// mostly they show that no prefix is derivable from its prefix, or that from one (11).
+pub(crate) fn check_fit(
     pkg: &[u8],
     f: &[u8; 256],
     s: &[u8],
@@ -133,23 +133,23 @@ pub(crate) fn misfit_of(
     t: usize,
     r: usize,
     m: usize,
-) -> u8
+) -> Result<(), Refusal>
     requires n_value { (n ≡ length (prefix_of s.now)) × (t ≡ tag_of (suffix_of s.now)) }
     requires holds_folding { HoldsFolding f.now (take n s.now) }
     requires bounded { Bounded pkg.now (key_in 0 (take n s.now) t []) r }
     requires counted { Counted pkg.now m }
-    ensures { Misfitting pkg.now s.now result }
+    ensures { Misfitting pkg.now s.now (number_of result) }
 {
     if is_opposed(pkg, r, m, f, &s[..n], t) {
-        return 12;
+        return Err(Refusal::PiecesDisagree);
     }
     if is_opposed_before(pkg, r, m, f, &s[..n], t) {
-        return 12;
+        return Err(Refusal::PiecesDisagree);
     }
     if is_parted(pkg, r, f, &s[..n]) | is_extended(pkg, r, m, f, &s[..n]) {
         if has_grown(pkg, m, f, &s[..n]) {
-            return 11;
+            return Err(Refusal::Derivable);
         }
     }
-    0
+    Ok(())
 }

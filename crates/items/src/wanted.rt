@@ -1,5 +1,5 @@
 // The item that a name asks for, and its row. `&s[..]` for `s`: docs/DECISIONS.md, Slices handed on.
-ghost use Rattle.std.specs.Prelude.{◌≡◌, ◌≤◌, ◌<◌, cond, length};
+ghost use Rattle.std.specs.Prelude.{◌≡◌, ◌≤◌, ◌<◌, length};
 ghost use Rattle.chars.specs.FoldedNames.{folded_size};
 ghost use Rattle.model.specs.Fields.{asked_field, item_field, prefix_of, suffix_of};
 ghost use Rattle.store.specs.Packages.{Shape};
@@ -11,20 +11,15 @@ use contract::ITEMS;
 use contract::search::{SearchKey, seek};
 use names::items::{ItemName, Suffix, refusal, take_apart};
 use names::parts::is_reserved;
+use output::refusals::Refusal;
 use store::header::count;
 use store::rows::tag;
 
-// A name taken apart, into the length of its prefix and the tag of its row; or the number of its refusal.
-#[derive(Drop)]
-pub enum Wanted {
-    Named(usize, usize),
-    Refused(u8),
-}
-
-fn bit(b: bool) -> usize
-    ensures { (result ≡ cond b 1 0) × (result ≤ 1) }
-{
-    if b { 1 } else { 0 }
+// The item that a name asks for: the length of its prefix, and the tag of its row.
+#[derive(Clone, Copy)]
+pub struct Wanted {
+    pub prefix: usize,
+    pub tag: usize,
 }
 
 // The tag of an item's row.
@@ -34,33 +29,39 @@ fn tag_of(x: Suffix) -> usize
 {
     match x {
         Suffix::Whole => 0,
-        Suffix::Piece(k, l) => 2 * (k + 1) + bit(l),
+        Suffix::Piece(k, l) => 2 * (k + 1) + usize::from(l),
     }
 }
 
 // A name as find and view take it.
-pub(crate) fn asked(s: &[u8]) -> Wanted
-    ensures { result ≡ wanted (asked_field s.now) s.now }
+pub(crate) fn asked(s: &[u8]) -> Result<Wanted, Refusal>
+    ensures { wanted (asked_field s.now) s.now result }
 {
     let split = take_apart(s);
     let ItemName::Named(n, x) = split else {
-        return Wanted::Refused(refusal(split));
+        return Err(refusal(split).unwrap());
     };
-    Wanted::Named(n, tag_of(x))
+    Ok(Wanted {
+        prefix: n,
+        tag: tag_of(x),
+    })
 }
 
 // A name as put and drop take it.
-pub(crate) fn strict(s: &[u8]) -> Wanted
-    ensures { result ≡ wanted (item_field s.now) s.now }
+pub(crate) fn strict(s: &[u8]) -> Result<Wanted, Refusal>
+    ensures { wanted (item_field s.now) s.now result }
 {
     let split = take_apart(s);
     let ItemName::Named(n, x) = split else {
-        return Wanted::Refused(refusal(split));
+        return Err(refusal(split).unwrap());
     };
     if is_reserved(&s[..n]) {
-        return Wanted::Refused(5);
+        return Err(Refusal::Reserved);
     }
-    Wanted::Named(n, tag_of(x))
+    Ok(Wanted {
+        prefix: n,
+        tag: tag_of(x),
+    })
 }
 
 // The row of the item with the prefix and the tag of s, or the number of rows.

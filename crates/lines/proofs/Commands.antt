@@ -21,6 +21,7 @@ use Rattle.model.specs.Sets.{Bytes}
 use Rattle.model.specs.Calls.{PutItem, PutDefault, PutOverride}
 use Rattle.model.specs.Sheet.{Does, Unreadable, space, line_read, by_fields, readable, filled_in}
 use Rattle.lines.specs.Reading.{Parsed, two_fields, field_to, field_after}
+use Rattle.std.specs.Prelude.{Option, Some, None}
 use Rattle.lines.specs.declared.parsing.Command.{Command}
 use Rattle.lines.specs.declared.parsing.Command.TheVariants as command
 
@@ -109,14 +110,14 @@ put_is l x h e far b n c (d ∷ r) k =
     rw (eq-eqb x (code "P") h, ne_eqb (length b) 0 (λ z. omega arith), z)
 
 -- an unreadable line
-unreadable : (l : Bytes) → line_read l ≡ Unreadable → Parsed l command.Unreadable
+unreadable : (l : Bytes) → line_read l ≡ Unreadable → Parsed l None
 unreadable l e = record { reads = sym e; inside = tt }
 
 pub long_unreadable : (l : Bytes) → 1024 < length l → line_read l ≡ Unreadable
 unfolding line_read
 long_unreadable l h = rw (lt-ltb 1024 (length l) h)
 
-pub parse_long : (l : Bytes) → 1024 < length l → Parsed l command.Unreadable
+pub parse_long : (l : Bytes) → 1024 < length l → Parsed l None
 parse_long l h = unreadable l (long_unreadable l h)
 
 module _ (l : Bytes) (few : length l ≤ 1024) where
@@ -126,7 +127,7 @@ module _ (l : Bytes) (few : length l ≤ 1024) where
 
   -- the first field has i bytes
   module _ (i : ℕ) (here : i ≡ 0 + index_of space (drop 0 l)) where
-    pub parse_first : (i ≡ 1 → ⊥) → Parsed l command.Unreadable
+    pub parse_first : (i ≡ 1 → ⊥) → Parsed l None
     parse_first h = unreadable l (⊎_elim
         (λ g. by_fields_lem _ (field_last l 0 i here (omega arith) (omega arith)) ∙ no_letter l l [] (λ z. h (g ∙ z)))
         (λ (g : i < length l).
@@ -145,11 +146,11 @@ module _ (l : Bytes) (few : length l ≤ 1024) where
       alone : length l ≡ 1 → line_read l ≡ by_fields l ((x ∷ []) ∷ [])
       alone n = by_fields_lem _ (field_last l 0 i here (omega arith) (omega arith) ∙ ap (λ (a : Bytes). a ∷ []) (sym (take_all 1 l (omega arith)) ∙ letter_is))
 
-      pub parse_list : length l ≡ 1 → x ≡ code "L" → Parsed l command.List
+      pub parse_list : length l ≡ 1 → x ≡ code "L" → Parsed l (Some command.List)
       unfolding same
       parse_list n h = record { reads = sym (alone n ∙ rw (eq-eqb x (code "L") h)); inside = tt }
 
-      pub parse_alone : length l ≡ 1 → (x ≡ code "L" → ⊥) → Parsed l command.Unreadable
+      pub parse_alone : length l ≡ 1 → (x ≡ code "L" → ⊥) → Parsed l None
       unfolding same
       parse_alone n h = unreadable l (alone n ∙ rw (ne_eqb x (code "L") h))
 
@@ -167,7 +168,7 @@ module _ (l : Bytes) (few : length l ≤ 1024) where
             ∙ ap (λ (a : Bytes). a ∷ split space (drop 2 l)) letter_is
             ∙ ap (λ (q : List Bytes). (x ∷ []) ∷ q) k)
 
-        pub parse_empty : e ≡ 2 → Parsed l command.Unreadable
+        pub parse_empty : e ≡ 2 → Parsed l None
         parse_empty h = unreadable l (⊎_elim
             (λ (g : e ≡ length l). fields _ (field_last l 2 e second two (omega arith)) ∙ second_empty l x (drop 2 l) [] (simp length-drop (omega arith)))
             (λ g. fields _ (field_more l 2 e second two g) ∙ second_empty l x (field_to e l) (split space (drop (e + 1) l)) (length-take-le (e - 2) (drop 2 l) (omega arith) ∙ omega arith))
@@ -182,14 +183,14 @@ module _ (l : Bytes) (few : length l ≤ 1024) where
             pair : line_read l ≡ by_fields l ((x ∷ []) ∷ drop 2 l ∷ [])
             pair = fields _ (field_last l 2 e second two last)
 
-            pub parse_drop : x ≡ code "X" → Parsed l command.Drop
+            pub parse_drop : x ≡ code "X" → Parsed l (Some command.Drop)
             unfolding same
             parse_drop h = record {
               reads = sym (pair ∙ rw (eq-eqb x (code "X") h, ne_eqb (length (drop 2 l)) 0 (λ z. omega (arith, far, inside_e, length-drop 2 l))));
               inside = omega (arith, far, inside_e);
             }
 
-            pub parse_two : (x ≡ code "X" → ⊥) → Parsed l command.Unreadable
+            pub parse_two : (x ≡ code "X" → ⊥) → Parsed l None
             unfolding same
             parse_two h = unreadable l (pair ∙ rw (ne_eqb x (code "X") h))
 
@@ -204,7 +205,7 @@ module _ (l : Bytes) (few : length l ≤ 1024) where
             from_third : (r : List Bytes) → split space (drop (e + 1) l) ≡ r → line_read l ≡ by_fields l ((x ∷ []) ∷ field_to e l ∷ r)
             from_third r k = fields _ (field_more l 2 e second two third ∙ ap (λ (q : List Bytes). field_to e l ∷ q) k)
 
-            pub parse_put : x ≡ code "P" → Parsed l (command.Put e)
+            pub parse_put : x ≡ code "P" → Parsed l (Some (command.Put e))
             parse_put h = record {
               reads = sym (⊎_elim
                   (λ g. from_third _ (field_last l (e + 1) f refl (omega arith) (omega arith)) ∙ put_is l x h e far (field_to e l) field_length (field_after e l) [] (λ z. refl))
@@ -218,18 +219,18 @@ module _ (l : Bytes) (few : length l ≤ 1024) where
                 f = e + 1 + index_of space (drop (e + 1) l)
 
             module _ (other : x ≡ code "P" → ⊥) where
-              pub parse_short : length l ≤ e + 1 → Parsed l command.Unreadable
+              pub parse_short : length l ≤ e + 1 → Parsed l None
               parse_short h =
                   unreadable l (from_third _ (field_last l (e + 1) (e + 1 + index_of space (drop (e + 1) l)) refl (omega arith) (omega arith))
                   ∙ third_empty l x other (field_to e l) (field_after e l) (simp length-drop (omega arith)))
 
               module _ (f : ℕ) (fourth : f ≡ e + 1 + index_of space (drop (e + 1) l)) where
-                pub parse_four : f < length l → Parsed l command.Unreadable
+                pub parse_four : f < length l → Parsed l None
                 parse_four h =
                     unreadable l (from_third _ (field_more l (e + 1) f fourth (omega arith) h)
                     ∙ four_is l x other (field_to e l) _ (split space (drop (f + 1) l)) (split_length space (drop (f + 1) l)))
 
-                pub parse_typed : e + 1 < length l → length l ≤ f → (r : Command) → r ≡ two_fields x e → Parsed l r
+                pub parse_typed : e + 1 < length l → length l ≤ f → (r : Option Command) → r ≡ two_fields x e → Parsed l r
                 unfolding same
                 parse_typed g h r q = subst (Parsed l) (sym q) (go (eqb x (code "D")) (eqb x (code "O")) refl refl)
                   where
@@ -239,7 +240,7 @@ module _ (l : Bytes) (few : length l ≤ 1024) where
                     last_given : eqb (length (field_after e l)) 0 ≡ false
                     last_given = ne_eqb (length (field_after e l)) 0 (λ z. omega (arith, length-drop (e + 1) l))
 
-                    go : (d o : Bool) → eqb x (code "D") ≡ d → eqb x (code "O") ≡ o → Parsed l (cond d (command.Default e) (cond o (command.Override e) command.Unreadable))
+                    go : (d o : Bool) → eqb x (code "D") ≡ d → eqb x (code "O") ≡ o → Parsed l (cond d (Some (command.Default e)) (cond o (Some (command.Override e)) None))
                     go true o u v = record { reads = sym (whole ∙ rw (ne_eqb x (code "P") other, u, field_given, last_given)); inside = (far, third) }
                     go false true u v = record { reads = sym (whole ∙ rw (ne_eqb x (code "P") other, u, v, field_given, last_given)); inside = (far, third) }
                     go false false u v = unreadable l (whole ∙ rw (ne_eqb x (code "P") other, u, v))

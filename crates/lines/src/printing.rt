@@ -6,7 +6,7 @@ ghost use Rattle.lines.specs.Printing.{padded, cell_of, type_given, columns, par
 
 use output::writing::emit;
 
-// The last digit of v, a space for 0.
+// The last digit of v, a space for 0. By hand, as there is no heap for what `format!` makes.
 fn cell(v: usize) -> u8
     ensures { result ≡ cell_of v }
 {

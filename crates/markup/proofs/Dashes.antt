@@ -17,8 +17,7 @@ use Rattle.chars.specs.Lists.{same, begins, first_passing, index_of}
 use Rattle.chars.proofs.Searches.{drop_next}
 use Rattle.chars.proofs.FirstBytes.{at_index}
 use Rattle.markup.specs.Marks.{expected, dashes, comment}
-use Rattle.markup.specs.Walks.{Reached, Walked}
-use Rattle.markup.specs.declared.marks.Walk.{Walk}
+use Rattle.markup.specs.Walks.{Reached, Walk, Walked}
 use Rattle.markup.proofs.Rests.{drop_past, index_within, walked_from}
 
 begins_dashes : (s : List ℕ) → begins (ascii "--") s ≡ (eqb (get_or s 0 0) 45 && eqb (get_or s 1 0) 45)

@@ -3,20 +3,23 @@
 use Prim.Native.Nat.{ℕ, zero, suc, pred, ◌+◌, ◌-◌, ◌≤◌, ◌<◌}
 use native.Mathlib.Numerals.{add-one}
 use native.Mathlib.Omega.{arith, min_cases}
-use mathlib.Core.Path.{◌≡◌, refl, sym, ap, ◌∙◌}
+use mathlib.Core.Path.{◌≡◌, refl, sym, ap, ◌∙◌, subst}
 use mathlib.Core.Bool.{Bool, true, false, cond}
 use mathlib.Core.List.{List, [], ◌∷◌, ◌++◌, append-nil}
 use lib.Dec.{eqb, leb}
 use lib.ListN.{length, get_or, take, drop, set, length-append, length-drop, drop_of_length-le}
 use lib.Seq.{take-suc-set, take_all, take_at, length-take-le, append_snoc, drop-drop}
 use borrow.Author.Tests.{eq-eqb, ne_eqb, leb-true, leb-false}
+use Rattle.std.specs.Prelude.{Option, Some, None, MatchOption, unwrap_or}
 use Rattle.base.proofs.Lists.{get_or_rest}
 use Rattle.chars.specs.Bytes.{ascii}
 use Rattle.chars.specs.Lists.{same, begins}
 use Rattle.chars.proofs.SameTexts.{same_lengths}
 use Rattle.markup.specs.Marks.{Entity, entity, entities, entity_of, value_unit, value_byte, unquoted}
+use Rattle.markup.specs.Walks.{EntityIs, NoEntity}
 use Rattle.markup.specs.EntryPlaces.{field_size, Decoded}
-use Rattle.markup.proofs.Units.{EntityIs, unit_entity}
+use Rattle.markup.specs.declared.values.Entity.{Entity as UnitRead}
+use Rattle.markup.proofs.Units.{unit_entity, unit_none}
 
 -- AT A PLACE. An entity of no bytes means none
 abbrev chosen : (a b c d e : Bool) → Entity
@@ -45,20 +48,27 @@ some_units zero f = absurd (f refl)
 some_units (suc n) f = refl
 
 module _ (s : List ℕ) (i : ℕ) (h : i < length s) where
-  module _ (e : get_or s i 0 ≡ 38) (n b : ℕ) (w : EntityIs s i n b) where
-    takes : n ≡ value_unit (drop i s)
-    takes = (unit_entity s i h (λ z. omega (arith, e, z)) e n b w).0
-
-    tells : b ≡ value_byte (drop i s)
+  module _ (e : get_or s i 0 ≡ 38) where
+    tells : value_byte (drop i s) ≡ (entity_of entities (drop i s)).byte
     unfolding value_byte
-    tells = rw (get_or_rest i s, eq-eqb (get_or s i 0) 38 e) w.1
+    tells = rw (get_or_rest i s, eq-eqb (get_or s i 0) 38 e)
 
-    pub byte_entity : (n ≡ 0 → ⊥) → ByteIs s i n b
-    byte_entity f = (some_units n f ∙ ap (λ (k : ℕ). suc (pred k)) takes, tells, w.2)
+    unlike : get_or s i 0 ≡ 60 → ⊥
+    unlike z = omega (arith, e, z)
 
-    pub byte_none : n ≡ 0 → ByteIs s i 1 0
-    byte_none z =
-        (ap (λ (k : ℕ). suc (pred k)) (sym z ∙ takes), sym (entity_none (drop i s) (sym w.0 ∙ z)) ∙ sym w.1 ∙ tells, omega arith)
+    byte_entity : (n b : ℕ) → EntityIs s i n b → ByteIs s i n b
+    byte_entity n b w =
+        let u = unit_entity s i h unlike e n b w in
+        (some_units n (λ z. omega (arith, w.0, z)) ∙ ap (λ (k : ℕ). suc (pred k)) u.1, w.2 ∙ sym tells, w.3)
+
+    byte_none : NoEntity s i → ByteIs s i 1 0
+    byte_none z = (ap (λ (k : ℕ). suc (pred k)) (sym (unit_none s i h unlike e z)), sym (entity_none (drop i s) z) ∙ sym tells, omega arith)
+
+    -- an entity, or else the mark alone
+    pub byte_marked : (r : Option UnitRead) → MatchOption r (NoEntity s i) (λ u. EntityIs s i u.length u.byte)
+        → ByteIs s i (unwrap_or r (record { length = 1; byte = 0 })).length (unwrap_or r (record { length = 1; byte = 0 })).byte
+    byte_marked (Some u) w = byte_entity u.length u.byte w
+    byte_marked None z = byte_none z
 
   pub byte_plain : (get_or s i 0 ≡ 38 → ⊥) → ByteIs s i 1 (get_or s i 0)
   unfolding value_unit value_byte
@@ -104,13 +114,13 @@ module _ (s out : List ℕ) (i n : ℕ) (size : length out ≡ field_size) (few 
   total : length (unquoted 0 s) ≡ n + length (unquoted 0 (drop i s))
   total = ap length so ∙ length-append (take n out) (unquoted 0 (drop i s)) ∙ ap (λ (j : ℕ). j + length (unquoted 0 (drop i s))) front
 
-  pub decoded_full : n ≡ field_size → Decoded s out n
+  pub decoded_full : n ≡ field_size → Decoded s out field_size
   decoded_full e =
-      record {
+      subst (λ (k : ℕ). Decoded s out k) e (record {
         size = size;
         count = omega (arith, total, e, min_cases);
         is = sym (ap (take field_size) so ∙ take_at (take n out) (unquoted 0 (drop i s)) field_size (front ∙ e));
-      }
+      })
 
   pub decoded_all : length s ≤ i → Decoded s out n
   unfolding unquoted

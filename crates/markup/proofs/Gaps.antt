@@ -6,12 +6,12 @@ use mathlib.Core.Path.{◌≡◌, refl, sym, ap, ◌∙◌, subst}
 use mathlib.Core.Bool.{Bool, true, false}
 use mathlib.Core.List.{List}
 use lib.ListN.{length, drop, length-drop, drop_of_length-le}
+use Rattle.std.specs.Prelude.{Ok, Err}
 use Rattle.chars.specs.Lists.{begins, index_of}
 use Rattle.markup.specs.Marks.{Outcome, On, Not, and_then, after_blanks, comment_mark, comment}
 use Rattle.markup.specs.Elements.{after_gap, gaps, between}
-use Rattle.markup.specs.Walks.{Reached, of_walk, Within, Walked}
-use Rattle.markup.specs.declared.marks.Walk.{Walk}
-use Rattle.markup.specs.declared.marks.Walk.TheVariants.{At, Off}
+use Rattle.markup.specs.Walks.{Reached, number, Walk, of_walk, Within, Walked}
+use Rattle.markup.specs.declared.marks.Fault.{Fault}
 use Rattle.markup.proofs.Rests.{drop_past, index_within, stands_within}
 
 -- the end of the text or of the blanks at `at`
@@ -62,14 +62,14 @@ module _ (s : List ℕ) (i : ℕ) (text : Bool) (t : ℕ) (w : Reached s i t) (i
           let n : length s ≤ i + came.calls = came.enough in
           omega arith
 
-      pub came_off : (n : ℕ) → r ≡ Off n → Not n ≡ o
+      pub came_off : (n : Fault) → r ≡ Err n → Not (number n) ≡ o
       came_off n e = go came.calls refl
         where
-          go : (k : ℕ) → came.calls ≡ k → Not n ≡ o
+          go : (k : ℕ) → came.calls ≡ k → Not (number n) ≡ o
           go zero z = absurd (some z)
           go (suc k) z = sym (step k z ∙ ap (λ (x : Walk). and_then (of_walk s x) (λ (u : List ℕ). gaps k text u)) e)
 
-      pub came_on : (e : ℕ) → r ≡ At e → Reached s (t + 4) e × Came s e text o
+      pub came_on : (e : ℕ) → r ≡ Ok e → Reached s (t + 4) e × Came s e text o
       came_on e q = (u, go came.calls refl)
         where
           u : Reached s (t + 4) e

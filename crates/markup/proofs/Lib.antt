@@ -3,7 +3,6 @@ pub mod RootPieces
 pub mod EntryPieces
 pub mod FieldTexts
 pub mod Notings
-pub mod StreamForms
 pub mod Roots
 pub mod Sets
 pub mod Rests

@@ -10,14 +10,17 @@ use lib.Dec.{ltb}
 use lib.ListN.{length, take, drop, set, length-append, length-set}
 use lib.Seq.{take_all, take-append-le, take-suc-set}
 use borrow.Author.Tests.{ltb-true, ltb-false}
+use Rattle.std.specs.Prelude.{Result, Ok, Err, IfOk, MatchResult}
 use Rattle.markup.specs.Entries.{Entry}
 use Rattle.markup.specs.Streams.{Said, Says, Unread, with_entry, entries_in, entries_of}
+use Rattle.markup.specs.Walks.{number}
+use Rattle.markup.specs.StreamPlaces.{RefusedBy}
 use Rattle.markup.specs.PiecePlaces.{entry_in, is_entry, enter, PieceWithin, EntryNextOf, EntryNextAt}
 use Rattle.markup.specs.FormPlaces.{place_count, noted, Noted, EndsAt, RunAt}
+use Rattle.markup.specs.declared.marks.Fault.{Fault}
 use Rattle.markup.specs.declared.entries.Kind.{Kind}
 use Rattle.markup.specs.declared.pieces.Piece.{Piece}
-use Rattle.markup.specs.declared.pieces.Piece.TheVariants.{Entered, Done, Unfit}
-use Rattle.markup.specs.declared.forms.Run.TheVariants.{Ends, Stops}
+use Rattle.markup.specs.declared.pieces.Piece.TheVariants.{Entered, Done}
 
 -- ENTRIES BEFORE what a stream says
 abbrev pub with_entries : List Entry → Said → Said
@@ -122,7 +125,7 @@ gone_more K s places es n p d c D size m h o f l = go (entry_in K s p) refl
 
 -- the content ends
 ends_with : (K : Kind) (s places : List ℕ) (es : List Entry) (d n : ℕ) (D : Said) → D ≡ Says es (drop d s) → n ≡ length es
-    → Noted K s places es → EndsAt K s places d n D
+    → Noted K s places es → EndsAt K s places D (record { end = d; count = n })
 ends_with K s places es d n D e c h =
     let f : entries_of D ≡ es = ap entries_of e in
     record {
@@ -132,22 +135,22 @@ ends_with K s places es d n D e c h =
     }
 
 -- what stands next
-module _ {K : Kind} {s : List ℕ} {i : ℕ} {r : Piece} (next : EntryNextAt K s i r) where
-  next_within : (x : Piece) → r ≡ x → PieceWithin K s i x
-  next_within x e = subst (λ (y : Piece). PieceWithin K s i y) e next.within
+module _ {K : Kind} {s : List ℕ} {i : ℕ} {r : Result Piece Fault} (next : EntryNextAt K s i r) where
+  next_within : (x : Piece) → r ≡ Ok x → PieceWithin K s i x
+  next_within x e = subst (λ (y : Result Piece Fault). IfOk y (PieceWithin K s i)) e next.within
 
-  pub next_reach : {p d : ℕ} → r ≡ Entered p d → (i < d) × (d ≤ length s)
+  pub next_reach : {p d : ℕ} → r ≡ Ok (Entered p d) → (i < d) × (d ≤ length s)
   next_reach {p} {d} e = let v = next_within (Entered p d) e in (v.0, v.2)
 
-module _ {K : Kind} {s : List ℕ} {a : ℕ} {places : List ℕ} {i n : ℕ} (so : Going K s a places i n) {r : Piece} (next : EntryNextAt K s i r) where
+module _ {K : Kind} {s : List ℕ} {a : ℕ} {places : List ℕ} {i n : ℕ} (so : Going K s a places i n) {r : Result Piece Fault} (next : EntryNextAt K s i r) where
   -- what the content says from i on
   abbrev rest : (k : ℕ) → length s ≤ a + k → Said
   rest k h = entries_in K (so.gone k h).calls (drop i s)
 
-  gone_next : (k : ℕ) (h : length s ≤ a + k) (x : Piece) → r ≡ x → EntryNextOf K s (rest k h) x
-  gone_next k h x e = subst (λ (y : Piece). EntryNextOf K s (rest k h) y) e (next.is (so.gone k h).calls (so.gone k h).enough)
+  gone_next : (k : ℕ) (h : length s ≤ a + k) (x : Result Piece Fault) → r ≡ x → MatchResult x (EntryNextOf K s (rest k h)) (RefusedBy (rest k h))
+  gone_next k h x e = subst (λ (y : Result Piece Fault). MatchResult y (EntryNextOf K s (rest k h)) (RefusedBy (rest k h))) e (next.is (so.gone k h).calls (so.gone k h).enough)
 
-  pub gone_entered : {p d : ℕ} → r ≡ Entered p d → (more : List ℕ) → more ≡ noted places n p → Going K s a more d (n + 1)
+  pub gone_entered : {p d : ℕ} → r ≡ Ok (Entered p d) → (more : List ℕ) → more ≡ noted places n p → Going K s a more d (n + 1)
   gone_entered {p} {d} e more q =
       let v = next_within next (Entered p d) e in
       let w = next_reach next e in
@@ -160,13 +163,13 @@ module _ {K : Kind} {s : List ℕ} {a : ℕ} {places : List ℕ} {i n : ℕ} (so
         size = ap length q ∙ length_noted places n p ∙ so.size;
         gone = λ k h.
             let g = so.gone k h in
-            let t : EntryNextOf K s (rest k h) (Entered p d) = gone_next k h (Entered p d) e in
+            let t : EntryNextOf K s (rest k h) (Entered p d) = gone_next k h (Ok (Entered p d)) e in
             subst (λ (x : List ℕ). Gone K s x d (n + 1) (entries_in K k (drop a s))) (sym q)
             (gone_more K s places g.entries n p d t.calls (entries_in K k (drop a s)) so.size g.counted g.noting v.3
             (g.is ∙ ap (with_entries g.entries) t.is) t.enough);
       }
 
-  pub gone_done : {d : ℕ} → r ≡ Done d → RunAt K s a places (Ends d n)
+  pub gone_done : {d : ℕ} → r ≡ Ok (Done d) → RunAt K s a places (Ok (record { end = d; count = n }))
   gone_done {d} e =
       let v = next_within next (Done d) e in
       let f : a ≤ i = so.from in
@@ -175,19 +178,19 @@ module _ {K : Kind} {s : List ℕ} {a : ℕ} {places : List ℕ} {i n : ℕ} (so
         within = (omega (arith, v.0, f), v.1);
         is = λ k h.
             let g = so.gone k h in
-            let t : rest k h ≡ Says [] (drop d s) = gone_next k h (Done d) e in
+            let t : rest k h ≡ Says [] (drop d s) = gone_next k h (Ok (Done d)) e in
             ends_with K s places g.entries d n (entries_in K k (drop a s))
             (g.is ∙ ap (with_entries g.entries) t ∙ with_says g.entries [] (drop d s)
             ∙ ap (λ (es : List Entry). Says es (drop d s)) (append-nil g.entries))
             g.counted g.noting;
       }
 
-  pub gone_unfit : {m : ℕ} → r ≡ Unfit m → RunAt K s a places (Stops m)
+  pub gone_unfit : {m : Fault} → r ≡ Err m → RunAt K s a places (Err m)
   gone_unfit {m} e = record {
     size = so.size;
     within = tt;
     is = λ k h.
         let g = so.gone k h in
-        let t : rest k h ≡ Unread m = gone_next k h (Unfit m) e in
-        g.is ∙ ap (with_entries g.entries) t ∙ with_unread g.entries m;
+        let t : rest k h ≡ Unread (number m) = gone_next k h (Err m) e in
+        g.is ∙ ap (with_entries g.entries) t ∙ with_unread g.entries (number m);
   }

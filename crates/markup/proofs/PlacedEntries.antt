@@ -10,23 +10,24 @@ use lib.Dec.{leb}
 use lib.ListN.{length, take, drop, get_or, length-take, drop_of_length-le}
 use lib.Seq.{get_or-take}
 use borrow.Author.Tests.{leb-true, leb-false}
+use Rattle.std.specs.Prelude.{Result, Ok, Err}
 use Rattle.chars.specs.Bytes.{letter}
 use Rattle.markup.specs.Tags.{start_tag}
 use Rattle.markup.specs.Entries.{Entry}
 use Rattle.markup.specs.Streams.{Unread, said, entries_of}
+use Rattle.markup.specs.Walks.{number}
 use Rattle.markup.specs.PiecePlaces.{started_entry, entry_in}
 use Rattle.markup.specs.FormPlaces.{place_count, Accepted, FormOf, FormAt}
+use Rattle.markup.specs.declared.marks.Fault.{Fault}
 use Rattle.markup.specs.declared.entries.Kind.{Kind}
-use Rattle.markup.specs.declared.forms.Form.{Form}
-use Rattle.markup.specs.declared.forms.Form.TheVariants.{Says as SaysSo, Refused}
 use Rattle.markup.proofs.EntryKinds.{OfKind, AllOf, said_of}
 
 -- WHAT THE FORM TELLS, as it is answered
-module _ {K : Kind} {s places : List ℕ} {r : Form} (f : FormAt K s places r) where
-  pub form_accepted : {count : ℕ} → r ≡ SaysSo count → Accepted K s places count
+module _ {K : Kind} {s places : List ℕ} {r : Result ℕ Fault} (f : FormAt K s places r) where
+  pub form_accepted : {count : ℕ} → r ≡ Ok count → Accepted K s places count
   form_accepted e = subst (FormOf K s places) e f.is
 
-  pub form_unread : {n : ℕ} → r ≡ Refused n → said K s ≡ Unread n
+  pub form_unread : {n : Fault} → r ≡ Err n → said K s ≡ Unread (number n)
   form_unread e = subst (FormOf K s places) e f.is
 
 -- a part of entries of a kind

@@ -9,6 +9,7 @@ use lib.Dec.{leb, eqb}
 use lib.ListN.{length, get_or, drop, length-drop, get_or-eq_default}
 use lib.Seq.{drop-drop}
 use borrow.Author.Tests.{eqb-true, leb-true, leb-false}
+use Rattle.std.specs.Prelude.{Ok, Err, Option as Optional, Some, IfSome}
 use Rattle.base.proofs.Lists.{get_or_rest}
 use Rattle.base.proofs.Bools.{and_left}
 use Rattle.chars.specs.Lists.{begins, first_passing, index_of}
@@ -16,11 +17,9 @@ use Rattle.chars.proofs.Searches.{first_le}
 use Rattle.chars.proofs.SameTexts.{begins_short}
 use Rattle.markup.specs.Marks.{Outcome, On, less, name_first, expected}
 use Rattle.markup.specs.Tags.{opens}
-use Rattle.markup.specs.Walks.{Reached, Within, Walked, WalkedContent, TagWithin, TagAt}
-use Rattle.markup.specs.declared.marks.Walk.{Walk}
-use Rattle.markup.specs.declared.marks.Walk.TheVariants.{At, Off}
-use Rattle.markup.specs.declared.tags.Tagged.{Tagged}
-use Rattle.markup.specs.declared.tags.Tagged.TheVariants.{Opened}
+use Rattle.markup.specs.Walks.{Reached, Walk, Within, Walked, WalkedContent, TagWithin, TagAt}
+use Rattle.markup.specs.declared.marks.Fault.TheVariants.{Malformed}
+use Rattle.markup.specs.declared.tags.StartTag.{StartTag}
 
 pub begins_within : (t s : List ℕ) → begins t s ≡ true → length t ≤ length s
 begins_within t s e = go (leb (length t) (length s)) refl
@@ -60,34 +59,33 @@ module _ (s : List ℕ) (at : ℕ) where
       omega arith
 
   module _ (t : List ℕ) (b : Bool) (e : b ≡ begins t (drop at s)) where
-    pub expected_on : at ≤ length s → b ≡ true → Walked s at (expected t (drop at s)) (At (at + length t))
+    pub expected_on : at ≤ length s → b ≡ true → Walked s at (expected t (drop at s)) (Ok (at + length t))
     expected_on h q =
         let f : begins t (drop at s) ≡ true = sym e ∙ q in
         record { within = (omega arith, stands_within t h f); is = rw f (ap On (sym (drop-drop (length t) at s))) }
 
-    pub expected_off : b ≡ false → Walked s at (expected t (drop at s)) (Off 19)
+    pub expected_off : b ≡ false → Walked s at (expected t (drop at s)) (Err Malformed)
     expected_off q =
         let f : begins t (drop at s) ≡ false = sym e ∙ q in
         record { within = tt; is = rw f }
 
 -- what is reached from a place is reached from one before it
 pub within_from : (s : List ℕ) (a b : ℕ) → a ≤ b → (r : Walk) → Within s b r → Within s a r
-within_from s a b h (At n) w = (omega arith, w.1)
-within_from s a b h (Off n) w = tt
+within_from s a b h (Ok n) w = (omega arith, w.1)
+within_from s a b h (Err f) w = tt
 
 pub walked_from : (s : List ℕ) (a b : ℕ) (o p : Outcome) → a ≤ b → o ≡ p → (r : Walk) → Walked s b o r → Walked s a p r
 walked_from s a b o p h e r w = record { within = within_from s a b h r w.within; is = w.is ∙ e }
 
 -- where a walk, content and a start tag lead to
-pub walked_at : {s : List ℕ} {at t : ℕ} {o : Outcome} {w : Walk} → Walked s at o w → w ≡ At t → Reached s at t
+pub walked_at : {s : List ℕ} {at t : ℕ} {o : Outcome} {w : Walk} → Walked s at o w → w ≡ Ok t → Reached s at t
 walked_at {s} {at} p e = subst (λ (x : Walk). Within s at x) e p.within
 
-pub content_at : {s : List ℕ} {at left t : ℕ} {text : Bool} {w : Walk} → WalkedContent s at left text w → w ≡ At t → Reached s at t
+pub content_at : {s : List ℕ} {at left t : ℕ} {text : Bool} {w : Walk} → WalkedContent s at left text w → w ≡ Ok t → Reached s at t
 content_at {s} {at} p e = subst (λ (x : Walk). Within s at x) e p.within
 
-pub tag_reach : {s : List ℕ} {at end count next : ℕ} {empty : Bool} {r : Tagged} → TagAt s at r → r ≡ Opened end count next empty
-    → (at < end) × (end < next) × (next ≤ length s)
-tag_reach {s} {at} p e = subst (λ (x : Tagged). TagWithin s at x) e p.within
+pub tag_reach : {s : List ℕ} {at : ℕ} {t : StartTag} {r : Optional StartTag} → TagAt s at r → r ≡ Some t → TagWithin s at t
+tag_reach {s} {at} p e = subst (λ (x : Optional StartTag). IfSome x (TagWithin s at)) e p.within
 
 -- a start tag stands before the end
 pub opens_within : (s : List ℕ) (t : ℕ) {b : Bool} → b ≡ opens (drop t s) → b ≡ true → t + 1 ≤ length s

@@ -7,19 +7,19 @@ use mathlib.Core.Bool.{Bool, true, false}
 use mathlib.Core.List.{List, []}
 use lib.ListN.{length, drop, length-drop, drop_of_length-le}
 use lib.Seq.{drop-drop}
+use Rattle.std.specs.Prelude.{Result, Ok, Err, IfOk}
 use Rattle.base.specs.Buffer.{part}
 use Rattle.markup.specs.Marks.{Outcome, name_at, prefixed}
 use Rattle.markup.specs.Tags.{start_tag, opens}
 use Rattle.markup.specs.Elements.{gaps, between}
 use Rattle.markup.specs.Streams.{Said, Says, where_on, choose, passed, entry_then, entries_in}
-use Rattle.markup.specs.Walks.{Reached, of_walk, Within, Walked, WalkedElement}
+use Rattle.markup.specs.Walks.{Reached, Walk, of_walk, Within, Walked, WalkedElement}
 use Rattle.markup.specs.StreamPlaces.{next_step, of_step, StepWithin, PassedAt, StepAt, NextAt}
-use Rattle.markup.specs.declared.marks.Walk.{Walk}
-use Rattle.markup.specs.declared.marks.Walk.TheVariants.{At, Off}
+use Rattle.markup.specs.declared.marks.Fault.{Fault}
 use Rattle.markup.specs.declared.entries.Kind.{Kind}
 use Rattle.markup.specs.declared.streams.Step.{Step}
-use Rattle.markup.specs.declared.streams.Step.TheVariants.{Unprefixed, Passed, Over, Bad}
-use Rattle.markup.specs.declared.streams.Next.TheVariants.{Tag, End, Fail}
+use Rattle.markup.specs.declared.streams.Step.TheVariants.{Unprefixed, Passed, Over}
+use Rattle.markup.specs.declared.streams.Next.TheVariants.{Tag, End}
 use Rattle.markup.proofs.NameTexts.{name_part}
 use Rattle.markup.proofs.Rests.{walked_at, opens_within}
 
@@ -30,20 +30,20 @@ module _ {s : List ℕ} {at : ℕ} {w : Walk} (inner : WalkedElement s at 14 w) 
       let n : length (drop at s) ≡ length s - at = length-drop at s in
       sym (ap (λ (y : Walk). where_on (of_walk s y) f) e) ∙ ap (λ (o : Outcome). where_on o f) (inner.is (length (drop at s)) (omega arith))
 
-  pub passed_off : {n : ℕ} → w ≡ Off n → PassedAt s at (Bad n)
-  passed_off {n} e = record { within = tt; is = λ f g. passed_is f (Off n) e }
+  pub passed_off : {n : Fault} → w ≡ Err n → PassedAt s at (Err n)
+  passed_off {n} e = record { within = tt; is = λ f g. passed_is f (Err n) e }
 
-  pub passed_on : {d : ℕ} → w ≡ At d → PassedAt s at (Passed d)
+  pub passed_on : {d : ℕ} → w ≡ Ok d → PassedAt s at (Ok (Passed d))
   passed_on {d} e =
       let v : Reached s (at + 1) d = subst (λ (x : Walk). Within s (at + 1) x) e inner.within in
-      record { within = (omega arith, v.1); is = λ f g. passed_is f (At d) e }
+      record { within = (omega arith, v.1); is = λ f g. passed_is f (Ok d) e }
 
 -- WHAT STANDS NEXT, behind what stands between tags
-steps_from : (s : List ℕ) (at t : ℕ) → at ≤ t → (q : Step) → StepWithin s t q → StepWithin s at q
-steps_from s at t h (Unprefixed n) w = (omega arith, w.1)
-steps_from s at t h (Passed n) w = (omega arith, w.1)
-steps_from s at t h (Over n) w = (omega arith, w.1)
-steps_from s at t h (Bad n) w = tt
+steps_from : (s : List ℕ) (at t : ℕ) → at ≤ t → (q : Result Step Fault) → IfOk q (StepWithin s t) → IfOk q (StepWithin s at)
+steps_from s at t h (Ok (Unprefixed n)) w = (omega arith, w.1)
+steps_from s at t h (Ok (Passed n)) w = (omega arith, w.1)
+steps_from s at t h (Ok (Over n)) w = (omega arith, w.1)
+steps_from s at t h (Err n) w = tt
 
 module _ {s : List ℕ} {at : ℕ} {w : Walk} (gap : Walked s at (between false (drop at s)) w) where
   -- at a start tag, from behind its `<` on: it has a prefix, or it has none
@@ -58,14 +58,14 @@ module _ {s : List ℕ} {at : ℕ} {w : Walk} (gap : Walked s at (between false 
       sym (ap (λ (y : Walk). where_on (of_walk s y) (λ (t : List ℕ). behind f g (opens t) t)) e)
       ∙ ap (λ (o : Outcome). where_on o (λ (t : List ℕ). behind f g (opens t) t)) gap.is
 
-  pub next_bad : {n : ℕ} → w ≡ Off n → StepAt s at (Bad n)
-  next_bad {n} e = record { within = tt; is = λ f g. next_gap f g (Off n) e }
+  pub next_bad : {n : Fault} → w ≡ Err n → StepAt s at (Err n)
+  next_bad {n} e = record { within = tt; is = λ f g. next_gap f g (Err n) e }
 
-  module _ {t : ℕ} (e : w ≡ At t) {b : Bool} (o : b ≡ opens (drop t s)) where
+  module _ {t : ℕ} (e : w ≡ Ok t) {b : Bool} (o : b ≡ opens (drop t s)) where
     next_behind : (f g : List ℕ → Said) (c : Bool) → b ≡ c → behind f g c (drop t s) ≡ next_step (drop at s) f g
-    next_behind f g c q = ap (λ (x : Bool). behind f g x (drop t s)) (sym q ∙ o) ∙ next_gap f g (At t) e
+    next_behind f g c q = ap (λ (x : Bool). behind f g x (drop t s)) (sym q ∙ o) ∙ next_gap f g (Ok t) e
 
-    pub next_over : b ≡ false → StepAt s at (Over t)
+    pub next_over : b ≡ false → StepAt s at (Ok (Over t))
     next_over q = record { within = walked_at gap e; is = λ f g. next_behind f g false q }
 
     -- a start tag stands there: its element is passed over, or it has no prefix
@@ -77,7 +77,7 @@ module _ {s : List ℕ} {at : ℕ} {w : Walk} (gap : Walked s at (between false 
           let y : c ≡ prefixed (name_at (drop (t + 1) s)) = sym z ∙ is ∙ ap prefixed (sym (name_part s (t + 1) end ended)) in
           rw (y, ← d) (next_behind f g true q)
 
-      pub next_passed : p ≡ true → {r : Step} → PassedAt s (t + 1) r → StepAt s at r
+      pub next_passed : p ≡ true → {r : Result Step Fault} → PassedAt s (t + 1) r → StepAt s at r
       next_passed z {r} a =
           let v = walked_at gap e in
           record {
@@ -85,7 +85,7 @@ module _ {s : List ℕ} {at : ℕ} {w : Walk} (gap : Walked s at (between false 
             is = λ f g. a.is f g ∙ next_named f g true z;
           }
 
-      pub next_plain : p ≡ false → StepAt s at (Unprefixed (t + 1))
+      pub next_plain : p ≡ false → StepAt s at (Ok (Unprefixed (t + 1)))
       next_plain z =
           let v = walked_at gap e in
           record { within = (omega arith, opens_within s t o q); is = λ f g. next_named f g false z }
@@ -123,8 +123,8 @@ entries_step K s i zero h =
     rw (drop_of_length-le s g) (entries_nil K)
 entries_step K s i (suc k) h = let e : suc k - 1 ≡ k = omega arith in rw e
 
-module _ {s : List ℕ} {a i : ℕ} (so : Coming s a i) {q : Step} (next : StepAt s i q) where
-  came_step : (K : Kind) (k : ℕ) (h : length s ≤ a + k) (x : Step) → q ≡ x
+module _ {s : List ℕ} {a i : ℕ} (so : Coming s a i) {q : Result Step Fault} (next : StepAt s i q) where
+  came_step : (K : Kind) (k : ℕ) (h : length s ≤ a + k) (x : Result Step Fault) → q ≡ x
       → entries_in K k (drop a s) ≡ of_step s (again K ((so.came K k h).calls - 1)) (entry K ((so.came K k h).calls - 1)) x
   came_step K k h x e =
       let c = so.came K k h in
@@ -132,17 +132,17 @@ module _ {s : List ℕ} {a i : ℕ} (so : Coming s a i) {q : Step} (next : StepA
       ∙ sym (next.is (again K (c.calls - 1)) (entry K (c.calls - 1)))
       ∙ ap (of_step s (again K (c.calls - 1)) (entry K (c.calls - 1))) e
 
-  came_within : (x : Step) → q ≡ x → StepWithin s i x
-  came_within x e = subst (λ (y : Step). StepWithin s i y) e next.within
+  came_within : (x : Step) → q ≡ Ok x → StepWithin s i x
+  came_within x e = subst (λ (y : Result Step Fault). IfOk y (StepWithin s i)) e next.within
 
   -- one call less suffices further on
   came_enough : (K : Kind) (k : ℕ) (h : length s ≤ a + k) (d : ℕ) → i < d → length s ≤ d + ((so.came K k h).calls - 1)
   came_enough K k h d l = let m : length s ≤ i + (so.came K k h).calls = (so.came K k h).enough in omega arith
 
-  pub step_past : {d : ℕ} → q ≡ Passed d → (i < d) × (d ≤ length s)
+  pub step_past : {d : ℕ} → q ≡ Ok (Passed d) → (i < d) × (d ≤ length s)
   step_past {d} e = came_within (Passed d) e
 
-  pub came_passed : {d : ℕ} → q ≡ Passed d → Coming s a d
+  pub came_passed : {d : ℕ} → q ≡ Ok (Passed d) → Coming s a d
   came_passed {d} e =
       let v = step_past e in
       let f : a ≤ i = so.from in
@@ -152,11 +152,11 @@ module _ {s : List ℕ} {a i : ℕ} (so : Coming s a i) {q : Step} (next : StepA
         came = λ K k h. record {
           calls = (so.came K k h).calls - 1;
           enough = came_enough K k h d v.0;
-          is = came_step K k h (Passed d) e;
+          is = came_step K k h (Ok (Passed d)) e;
         };
       }
 
-  pub came_tag : {t : ℕ} → q ≡ Unprefixed t → NextAt s a (Tag t)
+  pub came_tag : {t : ℕ} → q ≡ Ok (Unprefixed t) → NextAt s a (Ok (Tag t))
   came_tag {t} e =
       let v = came_within (Unprefixed t) e in
       let f : a ≤ i = so.from in
@@ -165,15 +165,15 @@ module _ {s : List ℕ} {a i : ℕ} (so : Coming s a i) {q : Step} (next : StepA
         is = λ K k h. record {
           calls = (so.came K k h).calls - 1;
           enough = came_enough K k h t v.0;
-          is = came_step K k h (Unprefixed t) e;
+          is = came_step K k h (Ok (Unprefixed t)) e;
         };
       }
 
-  pub came_over : {n : ℕ} → q ≡ Over n → NextAt s a (End n)
+  pub came_over : {n : ℕ} → q ≡ Ok (Over n) → NextAt s a (Ok (End n))
   came_over {n} e =
       let v = came_within (Over n) e in
       let f : a ≤ i = so.from in
-      record { within = (omega (arith, v.0, f), v.1); is = λ K k h. came_step K k h (Over n) e }
+      record { within = (omega (arith, v.0, f), v.1); is = λ K k h. came_step K k h (Ok (Over n)) e }
 
-  pub came_bad : {n : ℕ} → q ≡ Bad n → NextAt s a (Fail n)
-  came_bad {n} e = record { within = tt; is = λ K k h. came_step K k h (Bad n) e }
+  pub came_bad : {n : Fault} → q ≡ Err n → NextAt s a (Err n)
+  came_bad {n} e = record { within = tt; is = λ K k h. came_step K k h (Err n) e }

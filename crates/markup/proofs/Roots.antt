@@ -2,58 +2,57 @@
 -- Assumes nothing.
 use Prim.Native.Nat.{ℕ, ◌+◌, ◌-◌, ◌≤◌}
 use native.Mathlib.Omega.{arith}
-use mathlib.Core.Path.{◌≡◌, refl, sym, ap, ◌∙◌, subst}
+use mathlib.Core.Path.{◌≡◌, refl, sym, ap, ◌∙◌}
 use mathlib.Core.Bool.{Bool, true, false}
 use mathlib.Core.List.{List, [], ◌∷◌}
 use lib.ListN.{length, drop, length-drop, drop_of_length-le}
 use lib.Seq.{drop-drop}
+use Rattle.std.specs.Prelude.{Result, Ok, Err, Option as Optional, Some, None}
 use Rattle.chars.specs.Lists.{begins}
-use Rattle.markup.specs.Marks.{Outcome, On, Not, malformed}
+use Rattle.markup.specs.Marks.{Outcome, On, malformed}
 use Rattle.markup.specs.Tags.{start_tag, opens}
 use Rattle.markup.specs.Elements.{between}
 use Rattle.markup.specs.Entries.{Entry}
 use Rattle.markup.specs.Streams.{Said, Unread, where_on, choose, ended, root_held, root_of, root_at, xml_declaration, after_declaration, said}
-use Rattle.markup.specs.Walks.{of_walk, Walked, of_tagged, TagAt}
+use Rattle.markup.specs.Walks.{Walk, of_walk, Walked, of_tagged, TagAt}
 use Rattle.markup.specs.EntryPlaces.{tag_in, RootAt}
 use Rattle.markup.specs.StreamPlaces.{Rooted, EndsWith}
-use Rattle.markup.specs.declared.marks.Walk.{Walk}
-use Rattle.markup.specs.declared.marks.Walk.TheVariants.{At, Off}
-use Rattle.markup.specs.declared.tags.Tagged.{Tagged}
-use Rattle.markup.specs.declared.tags.Tagged.TheVariants.{Opened, Unopened}
+use Rattle.markup.specs.declared.marks.Fault.{Fault}
+use Rattle.markup.specs.declared.marks.Fault.TheVariants.{Malformed}
+use Rattle.markup.specs.declared.tags.StartTag.{StartTag}
 use Rattle.markup.specs.declared.entries.Kind.{Kind}
 use Rattle.markup.specs.declared.streams.Root.{Root}
-use Rattle.markup.specs.declared.streams.Root.TheVariants.{Holds, Empty, NoRoot}
+use Rattle.markup.specs.declared.streams.Root.TheVariants.{Holds, Empty}
 use Rattle.markup.proofs.Rests.{walked_at, tag_reach}
-use Rattle.markup.proofs.Refusals.{Gives, gaps_gives}
 
 -- THE ROOT'S TAG, read from `at` on
-module _ (K : Kind) {s : List ℕ} {at : ℕ} {r : Tagged} (tag : TagAt s at r) where
-  root_read : (x : Tagged) → r ≡ x → root_of K (of_tagged s at x) ≡ root_of K (start_tag (drop at s))
-  root_read x e = sym (ap (λ (y : Tagged). root_of K (of_tagged s at y)) e) ∙ ap (root_of K) tag.is
+module _ (K : Kind) {s : List ℕ} {at : ℕ} {r : Optional StartTag} (tag : TagAt s at r) where
+  root_read : (x : Optional StartTag) → r ≡ x → root_of K (of_tagged s at x) ≡ root_of K (start_tag (drop at s))
+  root_read x e = sym (ap (λ (y : Optional StartTag). root_of K (of_tagged s at y)) e) ∙ ap (root_of K) tag.is
 
-  pub root_tagless : r ≡ Unopened → Rooted K s (root_of K (start_tag (drop at s))) (NoRoot malformed)
-  root_tagless e = record { within = tt; is = root_read Unopened e }
+  pub root_tagless : r ≡ None → Rooted K s (root_of K (start_tag (drop at s))) (Err Malformed)
+  root_tagless e = record { within = tt; is = root_read None e }
 
-  module _ {end count next : ℕ} {empty : Bool} (e : r ≡ Opened end count next empty) {b : Bool} (is : RootAt K s at end count b) where
+  module _ {t : StartTag} (e : r ≡ Some t) {b : Bool} (is : RootAt K s at t.name_end t.count b) where
     abbrev holding : Bool → Said
-    holding x = root_held K (tag_in s at end count x) (drop next s)
+    holding x = root_held K (tag_in s at t.name_end t.count x) (drop t.next s)
 
-    root_named : (c : Bool) → b ≡ c → choose c (holding empty) (Unread malformed) ≡ root_of K (start_tag (drop at s))
+    root_named : (c : Bool) → b ≡ c → choose c (holding t.empty) (Unread malformed) ≡ root_of K (start_tag (drop at s))
     root_named c q =
-        ap (λ (x : Bool). choose x (holding empty) (Unread malformed)) (sym q ∙ is.is empty) ∙ root_read (Opened end count next empty) e
+        ap (λ (x : Bool). choose x (holding t.empty) (Unread malformed)) (sym q ∙ is.is t.empty) ∙ root_read (Some t) e
 
-    pub root_other : b ≡ false → Rooted K s (root_of K (start_tag (drop at s))) (NoRoot malformed)
+    pub root_other : b ≡ false → Rooted K s (root_of K (start_tag (drop at s))) (Err Malformed)
     root_other q = record { within = tt; is = root_named false q }
 
     module _ (q : b ≡ true) where
-      root_held_lem : (x : Bool) → empty ≡ x → holding x ≡ root_of K (start_tag (drop at s))
+      root_held_lem : (x : Bool) → t.empty ≡ x → holding x ≡ root_of K (start_tag (drop at s))
       root_held_lem x z = sym (ap holding z) ∙ root_named true q
 
-      pub root_empty : empty ≡ true → Rooted K s (root_of K (start_tag (drop at s))) (Empty next)
+      pub root_empty : t.empty ≡ true → Rooted K s (root_of K (start_tag (drop at s))) (Ok (Empty t.next))
       root_empty z = record { within = (tag_reach tag e).2; is = root_held_lem true z }
 
-      pub root_holds : empty ≡ false → Rooted K s (root_of K (start_tag (drop at s))) (Holds at end next)
-      root_holds z = let t = tag_reach tag e in record { within = ((omega arith, omega arith), t.2); is = root_held_lem false z }
+      pub root_holds : t.empty ≡ false → Rooted K s (root_of K (start_tag (drop at s))) (Ok (Holds at t.name_end t.next))
+      root_holds z = let l = tag_reach tag e in record { within = ((omega arith, omega arith), l.2); is = root_held_lem false z }
 
 -- THE STREAM, behind its declaration at d
 module _ (K : Kind) {s : List ℕ} {d : ℕ} (declared : (d ≤ length s) × (drop d s ≡ after_declaration s)) {w : Walk}
@@ -65,20 +64,20 @@ module _ (K : Kind) {s : List ℕ} {d : ℕ} (declared : (d ≤ length s) × (dr
       ∙ ap (λ (o : Outcome). where_on o (root_at K)) gap.is
       ∙ ap (λ (t : List ℕ). where_on (between false t) (root_at K)) declared.1
 
-  pub stream_bad : {n : ℕ} → w ≡ Off n → Rooted K s (said K s) (NoRoot n)
-  stream_bad {n} e = record { within = tt; is = stream_gap (Off n) e }
+  pub stream_bad : {n : Fault} → w ≡ Err n → Rooted K s (said K s) (Err n)
+  stream_bad {n} e = record { within = tt; is = stream_gap (Err n) e }
 
-  module _ {t : ℕ} (e : w ≡ At t) {b : Bool} (o : b ≡ opens (drop t s)) where
+  module _ {t : ℕ} (e : w ≡ Ok t) {b : Bool} (o : b ≡ opens (drop t s)) where
     stream_root : (c : Bool) → b ≡ c → choose c (root_of K (start_tag (drop (t + 1) s))) (Unread malformed) ≡ said K s
     stream_root c q =
         ap (λ (x : Bool). choose x (root_of K (start_tag (drop (t + 1) s))) (Unread malformed)) (sym q ∙ o)
         ∙ ap (λ (x : List ℕ). choose (opens (drop t s)) (root_of K (start_tag x)) (Unread malformed)) (sym (drop-drop 1 t s))
-        ∙ stream_gap (At t) e
+        ∙ stream_gap (Ok t) e
 
-    pub stream_none : b ≡ false → Rooted K s (said K s) (NoRoot malformed)
+    pub stream_none : b ≡ false → Rooted K s (said K s) (Err Malformed)
     stream_none q = record { within = tt; is = stream_root false q }
 
-    pub stream_rooted : b ≡ true → {r : Root} → Rooted K s (root_of K (start_tag (drop (t + 1) s))) r → Rooted K s (said K s) r
+    pub stream_rooted : b ≡ true → {r : Result Root Fault} → Rooted K s (root_of K (start_tag (drop (t + 1) s))) r → Rooted K s (said K s) r
     stream_rooted q p = record { within = p.within; is = p.is ∙ stream_root true q }
 
 -- the declaration
@@ -94,18 +93,15 @@ module _ {s : List ℕ} {at : ℕ} {w : Walk} (gap : Walked s at (between false 
   end_gap : (es : List Entry) (x : Walk) → w ≡ x → ended es (of_walk s x) ≡ ended es (between false (drop at s))
   end_gap es x e = sym (ap (λ (y : Walk). ended es (of_walk s y)) e) ∙ ap (ended es) gap.is
 
-  pub end_off : {n : ℕ} → w ≡ Off n → EndsWith s (between false (drop at s)) n
-  end_off {n} e =
-      let o : between false (drop at s) ≡ Not n = sym gap.is ∙ ap (of_walk s) e in
-      let z : n ≡ 19 = subst (Gives (λ (m : ℕ). m ≡ 19)) o (gaps_gives (λ (m : ℕ). m ≡ 19) refl (length (drop at s)) false (drop at s)) in
-      record { is = λ es. rw z (end_gap es (Off 19) (e ∙ ap Off z)) }
+  pub end_off : {n : Fault} → w ≡ Err n → EndsWith s (between false (drop at s)) (Err n)
+  end_off {n} e = record { is = λ es. end_gap es (Err n) e }
 
-  module _ {t : ℕ} (e : w ≡ At t) where
-    pub end_none : t ≡ length s → EndsWith s (between false (drop at s)) 0
-    end_none h = let g : length s ≤ t = omega arith in record { is = λ es. rw (drop_of_length-le s g) at (end_gap es (At t) e) }
+  module _ {t : ℕ} (e : w ≡ Ok t) where
+    pub end_none : t ≡ length s → EndsWith s (between false (drop at s)) (Ok tt)
+    end_none h = let g : length s ≤ t = omega arith in record { is = λ es. rw (drop_of_length-le s g) at (end_gap es (Ok t) e) }
 
-    pub end_more : (t ≡ length s → ⊥) → EndsWith s (between false (drop at s)) malformed
-    end_more h = record { is = λ es. go es (drop t s) refl (end_gap es (At t) e) }
+    pub end_more : (t ≡ length s → ⊥) → EndsWith s (between false (drop at s)) (Err Malformed)
+    end_more h = record { is = λ es. go es (drop t s) refl (end_gap es (Ok t) e) }
       where
         go : (es : List Entry) (x : List ℕ) → drop t s ≡ x → ended es (On x) ≡ ended es (between false (drop at s))
             → Unread malformed ≡ ended es (between false (drop at s))

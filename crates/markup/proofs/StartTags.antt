@@ -3,21 +3,17 @@
 use Prim.Native.Nat.{ℕ, ◌+◌, ◌-◌, ◌≤◌, ◌<◌}
 use native.Mathlib.Omega.{arith}
 use mathlib.Core.Path.{◌≡◌, refl, sym, ap, ◌∙◌, subst}
-use mathlib.Core.Bool.{Bool, true, false, not, cond}
+use mathlib.Core.Bool.{Bool, true, false, cond}
 use mathlib.Core.List.{List, [], ◌∷◌, ◌++◌}
-use lib.Dec.{eqb}
 use lib.ListN.{length, get_or, drop, set, length-drop, length-set}
-use borrow.Author.Tests.{not-false, eqb-true}
+use Rattle.std.specs.Prelude.{Option as Optional, Some, None, IfSome}
 use Rattle.base.specs.Buffer.{part}
 use Rattle.markup.specs.Marks.{name_at, after_blanks}
 use Rattle.markup.specs.Tags.{Attribute, next_attribute, attributes_at, after_attributes, distinct, named, NoTag, closing, start_after, start_tag}
 use Rattle.markup.specs.Walks.{Reached, Spanned, SpanWithin, attribute_in, mark_of, Marked, AllListed, TagListed, ListedAt, EndAt, EndWithin, TagAt, TagWithin}
 use Rattle.markup.specs.declared.attributes.Span.{Span}
-use Rattle.markup.specs.declared.attributes.Span.TheVariants.{Given, Missing}
 use Rattle.markup.specs.declared.tags.Listed.{Listed}
-use Rattle.markup.specs.declared.tags.Listed.TheVariants.{All, Repeated}
-use Rattle.markup.specs.declared.tags.Tagged.{Tagged}
-use Rattle.markup.specs.declared.tags.Tagged.TheVariants.{Opened, Unopened}
+use Rattle.markup.specs.declared.tags.StartTag.{StartTag}
 use Rattle.markup.proofs.AttributeLists.{attributes_more, behind_more, attributes_on, attributes_all, behind_all}
 use Rattle.markup.proofs.AttributeWalks.{missing_is, given_is, given_within}
 use Rattle.markup.proofs.Distinct.{distinct_more, distinct_not}
@@ -25,7 +21,7 @@ use Rattle.markup.proofs.NameMarks.{marked_more, unmarked}
 use Rattle.markup.proofs.NameTexts.{name_part, behind_name, no_name_at, name_at_lem}
 
 -- THE LOOP over the attributes from `at` on has read k and come to i
-pub record Listing (s : List ℕ) (at : ℕ) (marks : List ℕ) (i k : ℕ) : Type 0 where
+pub record Listing (s : List ℕ) (at : ℕ) (marks : List Bool) (i k : ℕ) : Type 0 where
   pub from : at + k ≤ i
   pub to : i ≤ length s
   pub size : length marks ≡ 64
@@ -33,20 +29,20 @@ pub record Listing (s : List ℕ) (at : ℕ) (marks : List ℕ) (i k : ℕ) : Ty
   pub distinctly : distinct (attributes_at k (drop at s)) ≡ true
   pub rest : after_attributes k (drop at s) ≡ drop i s
 
-pub listing_none : (s : List ℕ) (at : ℕ) (marks : List ℕ) → at ≤ length s → length marks ≡ 64 → Listing s at marks at 0
+pub listing_none : (s : List ℕ) (at : ℕ) (marks : List Bool) → at ≤ length s → length marks ≡ 64 → Listing s at marks at 0
 unfolding attributes_at after_attributes distinct
 listing_none s at marks h e = record { from = omega arith; to = h; size = e; marked = tt; distinctly = refl; rest = refl }
 
-module _ (s : List ℕ) (at : ℕ) (marks : List ℕ) (i k : ℕ) (so : Listing s at marks i k) where
+module _ (s : List ℕ) (at : ℕ) (marks : List Bool) (i k : ℕ) (so : Listing s at marks i k) where
   -- a name whose mark is not set
-  pub listing_new : (w : List ℕ) (m : ℕ) → m ≡ mark_of w → not (eqb (get_or marks m 0) 0) ≡ false → named w (attributes_at k (drop at s)) ≡ false
+  pub listing_new : (w : List ℕ) (m : ℕ) → m ≡ mark_of w → get_or marks m false ≡ false → named w (attributes_at k (drop at s)) ≡ false
   listing_new w m e f =
       unmarked marks w (attributes_at k (drop at s)) so.marked
-      (ap (λ (j : ℕ). get_or marks j 0) (sym e) ∙ eqb-true (get_or marks m 0) 0 (not-false (eqb (get_or marks m 0) 0) f))
+      (ap (λ (j : ℕ). get_or marks j false) (sym e) ∙ f)
 
-  module _ (r : Span) (p : Spanned s i (next_attribute (drop i s)) r) where
+  module _ (r : Optional Span) (p : Spanned s i (next_attribute (drop i s)) r) where
     -- there are no more
-    pub listing_all : r ≡ Missing → (q : ℕ) → Reached s i q → drop q s ≡ after_blanks (drop i s) → TagListed s at k q
+    pub listing_all : r ≡ None → (q : ℕ) → Reached s i q → drop q s ≡ after_blanks (drop i s) → TagListed s at k q
     listing_all e q h b = record {
       end = i;
       listed = record { within = (so.from, so.to); distinctly = so.distinctly; rest = so.rest; none = missing_is s i r p e };
@@ -55,49 +51,49 @@ module _ (s : List ℕ) (at : ℕ) (marks : List ℕ) (i k : ℕ) (so : Listing 
     }
 
     -- one more
-    module _ (name name_end from to next : ℕ) (e : r ≡ Given name name_end from to next) where
-      pub listing_repeated : named (part name (name_end - name) s) (attributes_at k (drop at s)) ≡ true →
+    module _ (sp : Span) (e : r ≡ Some sp) where
+      pub listing_repeated : named (part sp.name (sp.name_end - sp.name) s) (attributes_at k (drop at s)) ≡ true →
           distinct (attributes_at (length (drop at s)) (drop at s)) ≡ false
       listing_repeated f =
-          let a : Attribute = attribute_in s name name_end from to in
-          let w : SpanWithin s i (Given name name_end from to next) = given_within s i r p name name_end from to next e in
+          let a : Attribute = attribute_in s sp in
+          let w : SpanWithin s i sp = given_within s i r p sp e in
           let l : length (drop at s) ≡ length s - at = length-drop at s in
           let g : at + k ≤ i = so.from in
-          ap distinct (attributes_on k (drop at s) (drop i s) so.rest a (drop next s) (given_is s i r p name name_end from to next e)
+          ap distinct (attributes_on k (drop at s) (drop i s) so.rest a (drop sp.next s) (given_is s i r p sp e)
           (length (drop at s)) (omega arith))
-          ∙ distinct_not (attributes_at k (drop at s)) a (attributes_at (length (drop at s) - k - 1) (drop next s)) f
+          ∙ distinct_not (attributes_at k (drop at s)) a (attributes_at (length (drop at s) - k - 1) (drop sp.next s)) f
 
-      pub listing_more : (m : ℕ) → m ≡ mark_of (part name (name_end - name) s) → m < 64 →
-          named (part name (name_end - name) s) (attributes_at k (drop at s)) ≡ false →
-          Listing s at (set marks m 1) next (k + 1)
+      pub listing_more : (m : ℕ) → m ≡ mark_of (part sp.name (sp.name_end - sp.name) s) → m < 64 →
+          named (part sp.name (sp.name_end - sp.name) s) (attributes_at k (drop at s)) ≡ false →
+          Listing s at (set marks m true) sp.next (k + 1)
       listing_more m q h f =
-          let a : Attribute = attribute_in s name name_end from to in
-          let w : SpanWithin s i (Given name name_end from to next) = given_within s i r p name name_end from to next e in
-          let x = given_is s i r p name name_end from to next e in
+          let a : Attribute = attribute_in s sp in
+          let w : SpanWithin s i sp = given_within s i r p sp e in
+          let x = given_is s i r p sp e in
           let l : length marks ≡ 64 = so.size in
           let g : at + k ≤ i = so.from in
           let more : attributes_at (k + 1) (drop at s) ≡ attributes_at k (drop at s) ++ (a ∷ []) =
-          attributes_more k (drop at s) (drop i s) so.rest a (drop next s) x in
+          attributes_more k (drop at s) (drop i s) so.rest a (drop sp.next s) x in
           record {
             from = omega arith;
             to = w.5;
-            size = length-set marks m 1 ∙ l;
+            size = length-set marks m true ∙ l;
             marked = rw more (marked_more marks m (attributes_at k (drop at s)) a q (omega arith) so.marked);
             distinctly = ap distinct more ∙ distinct_more (attributes_at k (drop at s)) a so.distinctly f;
-            rest = behind_more k (drop at s) (drop i s) so.rest a (drop next s) x;
+            rest = behind_more k (drop at s) (drop i s) so.rest a (drop sp.next s) x;
           }
 
 -- what the attributes of a tag are told to be
-module _ (s : List ℕ) (at : ℕ) (r : Listed) (p : ListedAt s at r) where
-  pub listed_all : (count next : ℕ) → r ≡ All count next → TagListed s at count next
-  listed_all count next e = subst (λ (x : Listed). ListedAt s at x) e p
+module _ (s : List ℕ) (at : ℕ) (r : Optional Listed) (p : ListedAt s at r) where
+  pub listed_all : (l : Listed) → r ≡ Some l → TagListed s at l.count l.next
+  listed_all l e = subst (λ (x : Optional Listed). ListedAt s at x) e p
 
-  pub listed_repeated : r ≡ Repeated → distinct (attributes_at (length (drop at s)) (drop at s)) ≡ false
-  listed_repeated e = subst (λ (x : Listed). ListedAt s at x) e p
+  pub listed_repeated : r ≡ None → distinct (attributes_at (length (drop at s)) (drop at s)) ≡ false
+  listed_repeated e = subst (λ (x : Optional Listed). ListedAt s at x) e p
 
 -- THE TAG: its name ends at n
 module _ (s : List ℕ) (at n : ℕ) (within : Reached s at n) (here : n ≡ at + length (name_at (drop at s))) where
-  pub tag_nameless : n ≡ at → TagAt s at Unopened
+  pub tag_nameless : n ≡ at → TagAt s at None
   unfolding start_tag
   tag_nameless e = record { within = tt; is = rw (no_name_at s at n here e) }
 
@@ -106,7 +102,7 @@ module _ (s : List ℕ) (at n : ℕ) (within : Reached s at n) (here : n ≡ at 
     unfolding start_tag
     start_is = rw (name_at_lem s at n here some, ← behind_name s at n here, name_part s at n here)
 
-    pub tag_repeated : distinct (attributes_at (length (drop n s)) (drop n s)) ≡ false → TagAt s at Unopened
+    pub tag_repeated : distinct (attributes_at (length (drop n s)) (drop n s)) ≡ false → TagAt s at None
     tag_repeated e =
         record {
           within = tt;
@@ -129,12 +125,12 @@ module _ (s : List ℕ) (at n : ℕ) (within : Reached s at n) (here : n ≡ at 
           ∙ ap (λ (b : Bool). cond b (closing name (attributes_at count (drop n s)) (after_blanks (after_attributes m (drop n s)))) NoTag) all.distinctly
           ∙ ap (λ (y : List ℕ). closing name (attributes_at count (drop n s)) y) (ap after_blanks t ∙ sym blanks)
 
-      tag_within : end ≤ q → (r : Tagged) → EndWithin s n count q r → TagWithin s at r
-      tag_within h (Opened j k next empty) w =
+      tag_within : end ≤ q → (r : Optional StartTag) → IfSome r (EndWithin s n count q) → IfSome r (TagWithin s at)
+      tag_within h (Some t) w =
           let g : (n + count ≤ end) × (end ≤ length s) = all.within in
           let a : at ≤ n = within.0 in
           (omega arith, omega arith, w.3)
-      tag_within h Unopened w = tt
+      tag_within h None w = tt
 
-      pub tag_is : end ≤ q → (r : Tagged) → EndAt s n count q r → TagAt s at r
+      pub tag_is : end ≤ q → (r : Optional StartTag) → EndAt s n count q r → TagAt s at r
       tag_is h r p = record { within = tag_within h r p.within; is = p.is at ∙ sym start_closing }

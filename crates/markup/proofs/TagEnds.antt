@@ -9,6 +9,7 @@ use lib.Dec.{eqb}
 use lib.ListN.{length, get_or, drop, length-append}
 use lib.Seq.{drop-drop, get_or-drop}
 use borrow.Author.Tests.{eq-eqb, ne_eqb}
+use Rattle.std.specs.Prelude.{Ok, Err, Some, None}
 use Rattle.base.specs.Buffer.{part}
 use Rattle.base.proofs.Bools.{and_assoc}
 use Rattle.base.proofs.Lists.{get_or_rest}
@@ -17,10 +18,9 @@ use Rattle.chars.specs.Bytes.{ascii}
 use Rattle.chars.specs.Lists.{same, begins, last_byte}
 use Rattle.markup.specs.Marks.{Outcome, On, Not, either, and_then, expected, after_blanks, name_first, name_at, prefixed}
 use Rattle.markup.specs.Tags.{end_tag, opens}
-use Rattle.markup.specs.Walks.{Reached, of_walk, Within, Walked, mark_of, EndAt, stops}
-use Rattle.markup.specs.declared.marks.Walk.{Walk}
-use Rattle.markup.specs.declared.marks.Walk.TheVariants.{At, Off}
-use Rattle.markup.specs.declared.tags.Tagged.TheVariants.{Opened, Unopened}
+use Rattle.markup.specs.Walks.{Reached, number, Walk, of_walk, Within, Walked, mark_of, EndAt, stops}
+use Rattle.markup.specs.declared.marks.Fault.{Fault}
+use Rattle.markup.specs.declared.marks.Fault.TheVariants.{Malformed, TooDeep}
 use Rattle.markup.proofs.Rests.{stands_within, walked_from}
 use Rattle.markup.proofs.NameTexts.{name_part}
 
@@ -53,21 +53,21 @@ module _ (s : List ℕ) (at end : ℕ) (h : at < end) (g : end ≤ length s) whe
 
 -- THE END OF A START TAG at `at`
 module _ (s : List ℕ) (name_end count at : ℕ) (h : at ≤ length s) (t : Bool) (e : t ≡ begins (ascii "/>") (drop at s)) where
-  pub empty_end : t ≡ true → EndAt s name_end count at (Opened name_end count (at + 2) true)
+  pub empty_end : t ≡ true → EndAt s name_end count at (Some (record { name_end = name_end; count = count; next = at + 2; empty = true }))
   empty_end q =
       let f : begins (ascii "/>") (drop at s) ≡ true = sym e ∙ q in
       let l : at + 2 ≤ length s = stands_within s at (ascii "/>") h f in
       record { within = (refl, refl, omega arith, l); is = λ from. rw (f, drop-drop 2 at s) }
 
   module _ (n : t ≡ false) (u : Bool) (g : u ≡ begins (ascii ">") (drop at s)) where
-    pub open_end : u ≡ true → EndAt s name_end count at (Opened name_end count (at + 1) false)
+    pub open_end : u ≡ true → EndAt s name_end count at (Some (record { name_end = name_end; count = count; next = at + 1; empty = false }))
     open_end q =
         let k : begins (ascii "/>") (drop at s) ≡ false = sym e ∙ n in
         let f : begins (ascii ">") (drop at s) ≡ true = sym g ∙ q in
         let l : at + 1 ≤ length s = stands_within s at (ascii ">") h f in
         record { within = (refl, refl, omega arith, l); is = λ from. rw (k, f, drop-drop 1 at s) }
 
-    pub no_end : u ≡ false → EndAt s name_end count at Unopened
+    pub no_end : u ≡ false → EndAt s name_end count at None
     no_end q =
         let k : begins (ascii "/>") (drop at s) ≡ false = sym e ∙ n in
         let f : begins (ascii ">") (drop at s) ≡ false = sym g ∙ q in
@@ -98,7 +98,7 @@ module _ (s : List ℕ) (at : ℕ) (h : at ≤ length s) (name : List ℕ) (b : 
       rw (sym e ∙ f, drop-drop 2 at s, g) in
       ap (λ (x : Outcome). and_then x (λ (t : List ℕ). expected (ascii ">") (after_blanks t))) (expected_both (ascii "</") name (drop at s) ∙ k)
 
-  pub end_none : b ≡ false → Walked s at (end_tag name (drop at s)) (Off 19)
+  pub end_none : b ≡ false → Walked s at (end_tag name (drop at s)) (Err Malformed)
   end_none f = record { within = tt; is = sym (end_is false f _ refl) }
 
   module _ (t : b ≡ true) where
@@ -106,10 +106,10 @@ module _ (s : List ℕ) (at : ℕ) (h : at ≤ length s) (name : List ℕ) (b : 
       after : (o : Outcome) → o ≡ of_walk s r → end_tag name (drop at s) ≡ and_then o (λ (u : List ℕ). expected (ascii ">") (after_blanks u))
       after o f = end_is true t o (f ∙ v.is)
 
-      pub end_off : (n : ℕ) → r ≡ Off n → Walked s at (end_tag name (drop at s)) (Off n)
-      end_off n f = record { within = tt; is = sym (after (Not n) (ap (of_walk s) (sym f))) }
+      pub end_off : (n : Fault) → r ≡ Err n → Walked s at (end_tag name (drop at s)) (Err n)
+      end_off n f = record { within = tt; is = sym (after (Not (number n)) (ap (of_walk s) (sym f))) }
 
-      module _ (i : ℕ) (f : r ≡ At i) where
+      module _ (i : ℕ) (f : r ≡ Ok i) where
         pub name_reached : Reached s (at + 2) i
         name_reached = subst (λ (x : Walk). Within s (at + 2) x) f v.within
 
@@ -121,19 +121,19 @@ module _ (s : List ℕ) (at : ℕ) (h : at ≤ length s) (name : List ℕ) (b : 
 
 -- WHAT REFUSES A START TAG
 module _ (s : List ℕ) (at left : ℕ) (text : Bool) where
-  pub deep_stops : left ≡ 0 → 20 ≡ stops left text (drop at s)
+  pub deep_stops : left ≡ 0 → Err TooDeep ≡ stops left text (drop at s)
   deep_stops e = rw (eq-eqb left 0 e)
 
   module _ (n : left ≡ 0 → ⊥) where
-    pub text_passes : text ≡ true → 0 ≡ stops left text (drop at s)
+    pub text_passes : text ≡ true → Ok tt ≡ stops left text (drop at s)
     text_passes e = rw (ne_eqb left 0 n, e)
 
     module _ (e : text ≡ false) (end : ℕ) (here : end ≡ at + length (name_at (drop at s))) (b : Bool) (f : b ≡ prefixed (part at (end - at) s)) where
       name_is : prefixed (name_at (drop at s)) ≡ b
       name_is = ap prefixed (name_part s at end here) ∙ sym f
 
-      pub prefix_passes : b ≡ true → 0 ≡ stops left text (drop at s)
+      pub prefix_passes : b ≡ true → Ok tt ≡ stops left text (drop at s)
       prefix_passes q = rw (ne_eqb left 0 n, e, name_is, q)
 
-      pub bare_stops : b ≡ false → 19 ≡ stops left text (drop at s)
+      pub bare_stops : b ≡ false → Err Malformed ≡ stops left text (drop at s)
       bare_stops q = rw (ne_eqb left 0 n, e, name_is, q)

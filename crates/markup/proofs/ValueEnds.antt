@@ -8,19 +8,20 @@ use mathlib.Core.List.{List}
 use lib.Dec.{ltb}
 use lib.ListN.{length, get_or, take, drop, length-drop}
 use lib.Seq.{drop-drop}
-use borrow.Author.Tests.{eq-eqb, ne_eqb, le-ltb, ltb-true, ltb-false}
+use borrow.Author.Tests.{eq-eqb, ne_eqb, lt-ltb, le-ltb, ltb-true, ltb-false}
+use Rattle.std.specs.Prelude.{Some, None}
 use Rattle.base.specs.Buffer.{part}
 use Rattle.base.proofs.Bools.{and_false, and_right_true}
 use Rattle.base.proofs.Lists.{get_or_rest}
 use Rattle.chars.specs.Lists.{index_of, lacks}
 use Rattle.markup.specs.Marks.{quote_mark, quotable}
-use Rattle.markup.specs.Tags.{has, valued}
+use Rattle.markup.specs.Tags.{HasNot, has, valued}
 use Rattle.markup.specs.Walks.{Reached, ValueEnd}
 use Rattle.markup.proofs.Rests.{byte_within, index_within}
 
 -- nothing is had where the test fails
-has_none : (p q : Bool) → p ≡ false → q ≡ false → (name raw rest t u : List ℕ) → has p name raw rest ≡ has q name t u
-has_none p q e f name raw rest t u = rw (e, f)
+has_none : (p : Bool) → p ≡ false → (name raw rest : List ℕ) → has p name raw rest ≡ HasNot
+has_none p e name raw rest = rw e
 
 lacks_not : (b : ℕ) (l : List ℕ) → (index_of b l ≡ length l → ⊥) → lacks b l ≡ false
 unfolding lacks
@@ -38,16 +39,11 @@ module _ (s : List ℕ) (q b : ℕ) (h : q ≤ length s) (read : b ≡ get_or s 
   abbrev test : Bool
   test = quote_mark b && not (lacks b (drop (q + 1) s)) && quotable (take (index_of b (drop (q + 1) s)) (drop (q + 1) s))
 
-  none : test ≡ false → ValueEnd s q (length s)
-  none f =
-      record {
-        within = (omega arith, omega arith);
-        is = λ name. valued_is name ∙ has_none test (ltb (length s) (length s)) f (le-ltb (length s) (length s) (omega arith)) name _ _ _ _;
-        past = λ l. absurd (omega arith);
-      }
+  none : test ≡ false → ValueEnd s q None
+  none f = record { within = tt; is = λ name. valued_is name ∙ has_none test f name _ _ }
 
   module _ (m : Bool) (e : m ≡ quote_mark b) where
-    pub value_unmarked : m ≡ false → ValueEnd s q (length s)
+    pub value_unmarked : m ≡ false → ValueEnd s q None
     value_unmarked f = none (rw (sym e ∙ f))
 
     module _ (t : m ≡ true) where
@@ -84,13 +80,21 @@ module _ (s : List ℕ) (q b : ℕ) (h : q ≤ length s) (read : b ≡ get_or s 
         unfolding part
         some g name = rw (g, sym e ∙ t, follows, and_right_true (ltb to (length s)), ← raw_is, behind_is)
 
+        pub value_open : length s ≤ to → ValueEnd s q None
+        value_open l =
+            none (ap (λ (p : Bool). quote_mark b && p && quotable (take (index_of b (drop (q + 1) s)) (drop (q + 1) s))) (follows ∙ le-ltb to (length s) l)
+            ∙ ap (λ (p : Bool). p && quotable (take (index_of b (drop (q + 1) s)) (drop (q + 1) s))) (and_false (quote_mark b)))
+
         module _ (k : Bool) (f : k ≡ quotable (take (to - (q + 1)) (drop (q + 1) s))) where
-          pub value_unquotable : k ≡ false → ValueEnd s q (length s)
+          pub value_unquotable : k ≡ false → ValueEnd s q None
           value_unquotable g =
               none (ap (λ (p : Bool). quote_mark b && not (lacks b (drop (q + 1) s)) && p) (ap quotable (sym raw_is) ∙ sym f ∙ g)
               ∙ and_false (quote_mark b && not (lacks b (drop (q + 1) s))))
 
-          pub value_some : k ≡ true → ValueEnd s q to
-          value_some g =
+          pub value_some : to < length s → k ≡ true → ValueEnd s q (Some to)
+          value_some l g =
               let r : quotable (take (index_of b (drop (q + 1) s)) (drop (q + 1) s)) ≡ true = ap quotable (sym raw_is) ∙ sym f ∙ g in
-              record { within = (omega (arith, to_within), to_within.1); is = λ name. valued_is name ∙ some r name; past = λ l. omega (arith, to_within) }
+              record {
+                within = (omega (arith, to_within), l);
+                is = λ name. valued_is name ∙ some r name ∙ ap (λ (p : Bool). has p name (part (q + 1) (to - (q + 1)) s) (drop (to + 1) s)) (lt-ltb to (length s) l);
+              }

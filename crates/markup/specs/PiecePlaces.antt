@@ -1,19 +1,18 @@
 -- What the answers of the code tell of the entries of a stream s, by their places.
 -- Assumes nothing.
-use Rattle.std.specs.Prelude.{ℕ, ◌+◌, ◌≤◌, ◌<◌, ◌≡◌, Bool, true, false, List, [], length, drop}
+use Rattle.std.specs.Prelude.{ℕ, ◌+◌, ◌≤◌, ◌<◌, ◌≡◌, Bool, true, false, List, [], length, drop, Result, Ok, Err, IfOk, MatchResult}
 use Rattle.std.proofs.Math.Option.{Option, none, some}
 use Rattle.markup.specs.Marks.{malformed}
 use Rattle.markup.specs.Tags.{Started, Begun, NoTag, start_tag}
 use Rattle.markup.specs.Entries.{Entry, entry_of}
 use Rattle.markup.specs.Streams.{Said, Says, Unread, with_entry, entry_held, entries_in}
-use Rattle.markup.specs.Walks.{Reached, Within, of_walk}
+use Rattle.markup.specs.Walks.{Reached, number, Walk, Within, of_walk}
 use Rattle.markup.specs.EntryPlaces.{tag_in}
-use Rattle.markup.specs.declared.marks.Walk.{Walk}
+use Rattle.markup.specs.StreamPlaces.{RefusedBy}
+use Rattle.markup.specs.declared.marks.Fault.{Fault}
 use Rattle.markup.specs.declared.entries.Kind.{Kind}
-use Rattle.markup.specs.declared.entries.Entered.{Entered as EnteredAt}
-use Rattle.markup.specs.declared.entries.Entered.TheVariants.{Typed, Related, NoEntry}
 use Rattle.markup.specs.declared.pieces.Piece.{Piece}
-use Rattle.markup.specs.declared.pieces.Piece.TheVariants.{Entered, Done, Unfit}
+use Rattle.markup.specs.declared.pieces.Piece.TheVariants.{Entered, Done}
 
 -- what follows the start tag of an entry
 pub record HeldAt (s : List ℕ) (at end next : ℕ) (empty : Bool) (r : Walk) : Type 0 where
@@ -32,32 +31,26 @@ abbrev pub is_entry : Option Entry → Bool
 is_entry none = false
 is_entry (some e) = true
 
-abbrev pub is_entered : EnteredAt → Bool
-is_entered (Typed default key key_end media media_end) = true
-is_entered (Related id id_end iri iri_end mode target target_end) = true
-is_entered NoEntry = false
-
 abbrev pub enter : Option Entry → Said → Said
 enter none d = Unread malformed
 enter (some e) d = with_entry e d
 
 -- f reads on behind the entry
-abbrev pub of_piece : Kind → List ℕ → (List ℕ → Said) → Piece → Said
-of_piece K s f (Entered p next) = enter (entry_in K s p) (f (drop next s))
-of_piece K s f (Done n) = Says [] (drop n s)
-of_piece K s f (Unfit n) = Unread n
+abbrev pub of_piece : Kind → List ℕ → (List ℕ → Said) → Result Piece Fault → Said
+of_piece K s f (Ok (Entered p next)) = enter (entry_in K s p) (f (drop next s))
+of_piece K s f (Ok (Done n)) = Says [] (drop n s)
+of_piece K s f (Err g) = Unread (number g)
 
 abbrev pub PieceWithin : Kind → List ℕ → ℕ → Piece → Type 0
 PieceWithin K s at (Entered p next) = (at < next) × (p ≤ next) × (next ≤ length s) × (is_entry (entry_in K s p) ≡ true)
 PieceWithin K s at (Done n) = Reached s at n
-PieceWithin K s at (Unfit n) = Unit {0}
 
 -- reading from `at` on says g f, whatever f reads on
-pub record PieceAt (K : Kind) (s : List ℕ) (at : ℕ) (g : (List ℕ → Said) → Said) (r : Piece) : Type 0 where
-  pub within : PieceWithin K s at r
+pub record PieceAt (K : Kind) (s : List ℕ) (at : ℕ) (g : (List ℕ → Said) → Said) (r : Result Piece Fault) : Type 0 where
+  pub within : IfOk r (PieceWithin K s at)
   pub is : (f : List ℕ → Said) → of_piece K s f r ≡ g f
 
--- the content says d: an entry and what remains behind it, bounded by calls; its end; or a refusal
+-- the content says d: an entry and what remains behind it, bounded by calls; or its end
 pub record EnteredThen (K : Kind) (s : List ℕ) (p next : ℕ) (d : Said) : Type 0 where
   pub calls : ℕ
   pub enough : length s ≤ next + calls
@@ -66,9 +59,8 @@ pub record EnteredThen (K : Kind) (s : List ℕ) (p next : ℕ) (d : Said) : Typ
 abbrev pub EntryNextOf : Kind → List ℕ → Said → Piece → Type 0
 EntryNextOf K s d (Entered p next) = EnteredThen K s p next d
 EntryNextOf K s d (Done n) = d ≡ Says [] (drop n s)
-EntryNextOf K s d (Unfit n) = d ≡ Unread n
 
 -- whatever bounds the entries, if it is as much as the bytes that remain
-pub record EntryNextAt (K : Kind) (s : List ℕ) (at : ℕ) (r : Piece) : Type 0 where
-  pub within : PieceWithin K s at r
-  pub is : (k : ℕ) → length s ≤ at + k → EntryNextOf K s (entries_in K k (drop at s)) r
+pub record EntryNextAt (K : Kind) (s : List ℕ) (at : ℕ) (r : Result Piece Fault) : Type 0 where
+  pub within : IfOk r (PieceWithin K s at)
+  pub is : (k : ℕ) → length s ≤ at + k → MatchResult r (EntryNextOf K s (entries_in K k (drop at s))) (RefusedBy (entries_in K k (drop at s)))

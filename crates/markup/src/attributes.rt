@@ -13,75 +13,69 @@ use chars::search::find;
 use chars::texts::is_same;
 
 // Where an attribute's name and the value between its quote marks stand, and where it ends.
-#[derive(Drop)]
-pub(crate) enum Span {
-    Given {
-        name: usize,
-        name_end: usize,
-        from: usize,
-        to: usize,
-        next: usize,
-    },
-    Missing,
+#[derive(Clone, Copy)]
+pub(crate) struct Span {
+    pub name: usize,
+    pub name_end: usize,
+    pub from: usize,
+    pub to: usize,
+    pub next: usize,
 }
 
-// Where the value ends whose quote mark stands at q: where that mark stands again. The length, if there is no value.
-fn value_end(s: &[u8], q: usize) -> usize
+// Where the value ends whose quote mark stands at q: where that mark stands again.
+fn value_end(s: &[u8], q: usize) -> Option<usize>
     requires { q ≤ length s.now }
     ensures { ValueEnd s.now q result }
 {
     let b = byte_at(s, q);
     if !is_quote_mark(b) {
-        return s.len();
+        return None;
     }
     let from = q + 1;
     let to = find(s, from, b);
-    if is_quotable(&s[from..to]) {
-        return to;
+    if to < s.len() && is_quotable(&s[from..to]) {
+        return Some(to);
     }
-    s.len()
+    None
 }
 
 // The attribute whose name begins at `at`.
-fn attribute(s: &[u8], at: usize) -> Span
+fn attribute(s: &[u8], at: usize) -> Option<Span>
     requires { at ≤ length s.now }
     ensures { Spanned s.now at (attribute_at (drop at s.now)) result }
 {
     let name_end = name_end(s, at);
     if name_end == at {
-        return Span::Missing;
+        return None;
     }
     let e = blanks_end(s, name_end);
     if byte_at(s, e) != b'=' {
-        return Span::Missing;
+        return None;
     }
     let q = blanks_end(s, e + 1);
-    let to = value_end(s, q);
-    if s.len() <= to {
-        return Span::Missing;
-    }
-    Span::Given {
+    let to = value_end(s, q)?;
+    Some(Span {
         name: at,
         name_end,
         from: q + 1,
         to,
         next: to + 1,
-    }
+    })
 }
 
 // The next attribute, where blanks go from `at` to `from`: they part it from what stands before.
-pub(crate) fn attribute_behind(s: &[u8], at: usize, from: usize) -> Span
+pub(crate) fn attribute_behind(s: &[u8], at: usize, from: usize) -> Option<Span>
     requires { Reached s.now at from × (drop from s.now ≡ after_blanks (drop at s.now)) }
     ensures { Spanned s.now at (next_of (drop at s.now)) result }
 {
     if is_blank(byte_at(s, at)) {
         return attribute(s, from);
     }
-    Span::Missing
+    None
 }
 
 // The next attribute, which blanks part from what stands before `at`.
-pub(crate) fn next_attribute(s: &[u8], at: usize) -> Span
+pub(crate) fn next_attribute(s: &[u8], at: usize) -> Option<Span>
     requires { at ≤ length s.now }
     ensures { Spanned s.now at (next_of (drop at s.now)) result }
 {
@@ -89,39 +83,19 @@ pub(crate) fn next_attribute(s: &[u8], at: usize) -> Span
 }
 
 // The attribute of a name among the first `count` from `at` on.
-pub(crate) fn find_attribute(s: &[u8], at: usize, count: usize, wanted: &[u8]) -> Span
+pub(crate) fn find_attribute(s: &[u8], at: usize, count: usize, wanted: &[u8]) -> Option<Span>
     requires { at ≤ length s.now }
     ensures { Sought s.now at (attribute_named wanted.now (attributes_at count (drop at s.now))) result }
 {
     let mut i = at;
-    let mut k = 0;
-    while k < count {
-        match next_attribute(s, i) {
-            Span::Given {
-                name,
-                name_end,
-                from,
-                to,
-                next,
-            } => {
-                if is_same(&s[name..name_end], wanted) {
-                    return Span::Given {
-                        name,
-                        name_end,
-                        from,
-                        to,
-                        next,
-                    };
-                }
-                i = next;
-                k += 1;
-            }
-            Span::Missing => {
-                return Span::Missing;
-            }
+    for _k in 0..count {
+        let a = next_attribute(s, i)?;
+        if is_same(&s[a.name..a.name_end], wanted) {
+            return Some(a);
         }
+        i = a.next;
     }
-    Span::Missing
+    None
 }
 
 // 1 for a name without a prefix, which counts, 0 for one with a prefix.
@@ -138,25 +112,13 @@ pub(crate) fn count_own(s: &[u8], at: usize, count: usize) -> usize
     ensures { result ≡ length (own (attributes_at count (drop at s.now))) }
 {
     let mut i = at;
-    let mut k = 0;
     let mut n = 0;
-    while k < count {
-        match next_attribute(s, i) {
-            Span::Given {
-                name,
-                name_end,
-                from: _,
-                to: _,
-                next,
-            } => {
-                n += own_one(s, name, name_end);
-                i = next;
-                k += 1;
-            }
-            Span::Missing => {
-                return n;
-            }
-        }
+    for _k in 0..count {
+        let Some(a) = next_attribute(s, i) else {
+            return n;
+        };
+        n += own_one(s, a.name, a.name_end);
+        i = a.next;
     }
     n
 }

@@ -5,7 +5,7 @@ ghost use Rattle.markup.specs.Marks.{dashes, comment_mark, comment as commentIn}
 ghost use Rattle.markup.specs.Elements.{after_gap, between as betweenTags};
 ghost use Rattle.markup.specs.Walks.{Reached, Walked};
 
-use crate::marks::{Walk, blanks_end, expected, stands};
+use crate::marks::{Fault, blanks_end, expected, stands};
 use base::bytes::byte_at;
 use chars::search::find;
 
@@ -28,7 +28,7 @@ fn dashes_at(s: &[u8], at: usize) -> usize
 }
 
 // Past the comment whose mark stands at `at`.
-pub(crate) fn comment(s: &[u8], at: usize) -> Walk
+pub(crate) fn comment(s: &[u8], at: usize) -> Result<usize, Fault>
     requires { (at ≤ length s.now) × (begins comment_mark (drop at s.now) ≡ true) }
     ensures { Walked s.now (at + 4) (commentIn (drop at s.now)) result }
 {
@@ -47,7 +47,7 @@ fn gap_end(s: &[u8], at: usize, text: bool) -> usize
 }
 
 // Past all that stands between tags.
-pub(crate) fn between(s: &[u8], at: usize, text: bool) -> Walk
+pub(crate) fn between(s: &[u8], at: usize, text: bool) -> Result<usize, Fault>
     requires { at ≤ length s.now }
     ensures { Walked s.now at (betweenTags text (drop at s.now)) result }
 {
@@ -55,15 +55,8 @@ pub(crate) fn between(s: &[u8], at: usize, text: bool) -> Walk
     loop {
         let t = gap_end(s, i, text);
         if !stands(s, t, b"<!--") {
-            return Walk::At(t);
+            return Ok(t);
         }
-        match comment(s, t) {
-            Walk::At(e) => {
-                i = e;
-            }
-            Walk::Off(n) => {
-                return Walk::Off(n);
-            }
-        }
+        i = comment(s, t)?;
     }
 }

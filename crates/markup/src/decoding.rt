@@ -17,11 +17,7 @@ fn unit_at(s: &[u8], i: usize) -> Entity
 {
     let b = s[i];
     if b == b'&' {
-        let e = entity_at(s, i);
-        if e.length != 0 {
-            return e;
-        }
-        return Entity { length: 1, byte: 0 };
+        return entity_at(s, i).unwrap_or(Entity { length: 1, byte: 0 });
     }
     Entity { length: 1, byte: b }
 }
@@ -32,17 +28,15 @@ pub(crate) fn decode(s: &[u8], out: &mut [u8; FIELD_SIZE]) -> usize
     ensures { Decoded s.now out.new result }
 {
     let mut i = 0;
-    let mut n = 0;
-    while i < s.len() {
-        if n == FIELD_SIZE {
+    for n in 0..FIELD_SIZE {
+        if s.len() <= i {
             return n;
         }
         let u = unit_at(s, i);
         out[n] = u.byte;
-        n += 1;
         i += u.length;
     }
-    n
+    FIELD_SIZE
 }
 
 // Whether a value means the bytes t.

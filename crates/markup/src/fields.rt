@@ -1,43 +1,36 @@
 // The fields of an entry: the first bytes that its values mean, each in an array.
 ghost use Rattle.std.specs.Prelude.{◌≡◌, ◌-◌, ◌≤◌, length};
 ghost use Rattle.base.specs.Buffer.{part};
-ghost use Rattle.markup.specs.Walks.{Reached};
-ghost use Rattle.markup.specs.EntryPlaces.{field_size, Decoded};
+ghost use Rattle.markup.specs.EntryPlaces.{field_size, ValueWithin, Decoded};
 ghost use Rattle.markup.specs.FieldPlaces.{TypedAt, RelatedAt};
 
 use crate::decoding::{FIELD_SIZE, decode};
-use crate::entries::{Entered, Kind};
+use crate::entries::{Entered, Kind, Mode, Value};
 use crate::pieces::entry_at;
 
 // A Default's extension or an Override's part name, and the media type, by their lengths.
-#[derive(Drop)]
-pub enum TypedFields {
-    Typing {
-        default: bool,
-        key: usize,
-        media: usize,
-    },
-    NotTyped,
+#[derive(Clone, Copy)]
+pub struct TypedFields {
+    pub default: bool,
+    pub key: usize,
+    pub media: usize,
 }
 
 // A Relationship's id, type, mode and target, texts by their lengths.
-#[derive(Drop)]
-pub enum RelatedFields {
-    Relating {
-        id: usize,
-        iri: usize,
-        mode: u8,
-        target: usize,
-    },
-    NotRelated,
+#[derive(Clone, Copy)]
+pub struct RelatedFields {
+    pub id: usize,
+    pub iri: usize,
+    pub mode: Mode,
+    pub target: usize,
 }
 
-// The first bytes that the value from `from` to `to` means; how many these are.
-fn field(s: &[u8], from: usize, to: usize, out: &mut [u8; FIELD_SIZE]) -> usize
-    requires { Reached s.now from to × (length out.old ≡ field_size) }
-    ensures { Decoded (part from (to - from) s.now) out.new result }
+// The first bytes that a value means; how many these are.
+fn field(s: &[u8], v: Value, out: &mut [u8; FIELD_SIZE]) -> usize
+    requires { ValueWithin s.now v × (length out.old ≡ field_size) }
+    ensures { Decoded (part v.from (v.to - v.from) s.now) out.new result }
 {
-    decode(&s[from..to], out)
+    decode(&s[v.from..v.to], out)
 }
 
 // The fields of the Default or Override whose tag's name begins at `at`.
@@ -46,32 +39,21 @@ pub fn typed_fields(
     at: usize,
     key: &mut [u8; FIELD_SIZE],
     media: &mut [u8; FIELD_SIZE],
-) -> TypedFields
+) -> Option<TypedFields>
     requires { (at ≤ length s.now) × (length key.old ≡ field_size) × (length media.old ≡ field_size) }
     ensures { TypedAt s.now at key.new media.new result }
 {
-    match entry_at(Kind::Types, s, at) {
+    match entry_at(Kind::Types, s, at)? {
         Entered::Typed {
             default,
-            key: from,
-            key_end: to,
-            media: start,
-            media_end: end,
-        } => TypedFields::Typing {
+            key: k,
+            media: m,
+        } => Some(TypedFields {
             default,
-            key: field(s, from, to, key),
-            media: field(s, start, end, media),
-        },
-        Entered::Related {
-            id: _,
-            id_end: _,
-            iri: _,
-            iri_end: _,
-            mode: _,
-            target: _,
-            target_end: _,
-        } => TypedFields::NotTyped,
-        Entered::NoEntry => TypedFields::NotTyped,
+            key: field(s, k, key),
+            media: field(s, m, media),
+        }),
+        Entered::Related { .. } => None,
     }
 }
 
@@ -82,32 +64,22 @@ pub fn related_fields(
     id: &mut [u8; FIELD_SIZE],
     iri: &mut [u8; FIELD_SIZE],
     target: &mut [u8; FIELD_SIZE],
-) -> RelatedFields
+) -> Option<RelatedFields>
     requires { (at ≤ length s.now) × (length id.old ≡ field_size) × (length iri.old ≡ field_size) × (length target.old ≡ field_size) }
     ensures { RelatedAt s.now at id.new iri.new target.new result }
 {
-    match entry_at(Kind::Relationships, s, at) {
+    match entry_at(Kind::Relationships, s, at)? {
         Entered::Related {
-            id: id_from,
-            id_end,
-            iri: iri_from,
-            iri_end,
+            id: name,
+            iri: kind,
             mode,
-            target: from,
-            target_end: to,
-        } => RelatedFields::Relating {
-            id: field(s, id_from, id_end, id),
-            iri: field(s, iri_from, iri_end, iri),
+            target: place,
+        } => Some(RelatedFields {
+            id: field(s, name, id),
+            iri: field(s, kind, iri),
             mode,
-            target: field(s, from, to, target),
-        },
-        Entered::Typed {
-            default: _,
-            key: _,
-            key_end: _,
-            media: _,
-            media_end: _,
-        } => RelatedFields::NotRelated,
-        Entered::NoEntry => RelatedFields::NotRelated,
+            target: field(s, place, target),
+        }),
+        Entered::Typed { .. } => None,
     }
 }

@@ -2,22 +2,36 @@
 ghost use Rattle.std.specs.Prelude.{◌≡◌, ◌≤◌, length, drop};
 ghost use Rattle.chars.specs.Lists.{begins as beginsWith};
 ghost use Rattle.markup.specs.Marks.{blank, after_blanks, expected as expectedNext};
-ghost use Rattle.markup.specs.Walks.{Reached, Walked};
+ghost use Rattle.markup.specs.Walks.{Reached, number, refusal_of, Walked};
 
 use chars::texts::begins;
+use output::refusals::Refusal;
 
-// How far reading has got, or the number of a refusal.
-#[derive(Drop)]
-pub(crate) enum Walk {
-    At(usize),
-    Off(u8),
+// Why a stream is refused: it isn't accepted, or a start tag is nested too deep. The numbers are those of the refusals.
+#[derive(Clone, Copy)]
+pub enum Fault {
+    Malformed = 19,
+    TooDeep = 20,
 }
 
-// The stream is not accepted.
-pub const MALFORMED: u8 = 19;
+impl Fault {
+    pub fn number(self) -> u8
+        ensures { result ≡ number self }
+    {
+        self as u8
+    }
+}
 
-// A start tag is nested too deep.
-pub const TOO_DEEP: u8 = 20;
+impl From<Fault> for Refusal {
+    ghost from_gives = { λ f r. r ≡ refusal_of f };
+
+    fn from(f: Fault) -> Refusal {
+        match f {
+            Fault::Malformed => Refusal::MalformedStream,
+            Fault::TooDeep => Refusal::TooDeep,
+        }
+    }
+}
 
 pub(crate) fn is_blank(b: u8) -> bool
     ensures { result ≡ blank b }
@@ -25,19 +39,17 @@ pub(crate) fn is_blank(b: u8) -> bool
     (b == b' ') | (b == b'\t') | (b == b'\r') | (b == b'\n')
 }
 
-// Where the blanks end that begin at `at`.
+// Where the blanks end that begin at `at`. The loop of a name's bytes is its like; with the test as a closure either would be as long.
 pub(crate) fn blanks_end(s: &[u8], at: usize) -> usize
     requires { at ≤ length s.now }
     ensures { Reached s.now at result × (drop result s.now ≡ after_blanks (drop at s.now)) }
 {
-    let mut i = at;
-    while i < s.len() {
+    for i in at..s.len() {
         if !is_blank(s[i]) {
             return i;
         }
-        i += 1;
     }
-    i
+    s.len()
 }
 
 // Whether t stands at `at`.
@@ -49,12 +61,12 @@ pub(crate) fn stands(s: &[u8], at: usize, t: &[u8]) -> bool
 }
 
 // Past the text t that must stand at `at`.
-pub(crate) fn expected(s: &[u8], at: usize, t: &[u8]) -> Walk
+pub(crate) fn expected(s: &[u8], at: usize, t: &[u8]) -> Result<usize, Fault>
     requires { at ≤ length s.now }
     ensures { Walked s.now at (expectedNext t.now (drop at s.now)) result }
 {
     if stands(s, at, t) {
-        return Walk::At(at + t.len());
+        return Ok(at + t.len());
     }
-    Walk::Off(MALFORMED)
+    Err(Fault::Malformed)
 }

@@ -33,14 +33,12 @@ fn name_bytes_end(s: &[u8], at: usize) -> usize
     requires { at ≤ length s.now }
     ensures { Reached s.now at result × (result ≡ at + first_not (member Id) (drop at s.now)) }
 {
-    let mut i = at;
-    while i < s.len() {
+    for i in at..s.len() {
         if !is_name_byte(s[i]) {
             return i;
         }
-        i += 1;
     }
-    i
+    s.len()
 }
 
 // The end of the name without a prefix that begins at `at`; `at` if none does.

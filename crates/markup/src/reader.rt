@@ -3,7 +3,7 @@
 ghost use Rattle.std.specs.Prelude.{◌≡◌};
 ghost use Rattle.markup.specs.StreamPlaces.{ReadAt};
 
-use crate::marks::MALFORMED;
+use crate::marks::Fault;
 use crate::streams::{Next, next_tag};
 
 #[derive(Drop)]
@@ -13,11 +13,11 @@ pub(crate) struct Reader<'a> {
 }
 
 // The work: what stands next in a stream from a place on.
-pub(crate) fn next_at(s: &[u8], at: usize) -> Next
+pub(crate) fn next_at(s: &[u8], at: usize) -> Result<Next, Fault>
     ensures { ReadAt s.now at result }
 {
     if s.len() < at {
-        return Next::Fail(MALFORMED);
+        return Err(Fault::Malformed);
     }
     next_tag(s, at)
 }
@@ -40,14 +40,14 @@ pub(crate) fn moved<'a>(r: Reader<'a>, at: usize) -> Reader<'a>
 }
 
 // What stands next.
-pub(crate) fn next<'a>(r: Reader<'a>) -> Next
+pub(crate) fn next<'a>(r: Reader<'a>) -> Result<Next, Fault>
     ensures { ReadAt r.entry.stream.now r.entry.at result }
 {
     next_at(r.stream, r.at)
 }
 
 // From a slice to a reader and back: whoever calls this is covered by the borrow checker.
-pub(crate) fn next_of(stream: &[u8], at: usize) -> Next
+pub(crate) fn next_of(stream: &[u8], at: usize) -> Result<Next, Fault>
     ensures { ReadAt stream.now at result }
 {
     next(moved(new(stream), at))

@@ -4,29 +4,26 @@ ghost use Rattle.base.specs.Buffer.{part};
 ghost use Rattle.markup.specs.Tags.{attributes_at, named, end_tag, opens as opensTag};
 ghost use Rattle.markup.specs.Walks.{Reached, Walked, mark_of, ListedAt, EndAt, TagAt};
 
-use crate::attributes::{Span, attribute_behind, find_attribute};
-use crate::marks::{MALFORMED, Walk, blanks_end, expected, stands};
+use crate::attributes::{attribute_behind, find_attribute};
+use crate::marks::{Fault, blanks_end, expected, stands};
 use crate::names::{is_name_first, name_end};
-use crate::repeats::{Chunk, read_chunk};
+use crate::repeats::read_chunk;
 use base::bytes::byte_at;
 
 // A start tag: the end of its name, the number of its attributes, what follows it, and whether it is an empty tag.
-#[derive(Drop)]
-pub(crate) enum Tagged {
-    Opened {
-        name_end: usize,
-        count: usize,
-        next: usize,
-        empty: bool,
-    },
-    Unopened,
+#[derive(Clone, Copy)]
+pub(crate) struct StartTag {
+    pub name_end: usize,
+    pub count: usize,
+    pub next: usize,
+    pub empty: bool,
 }
 
-// The attributes of a tag: how many there are, and what stands behind them and blanks, if no two are of one name.
-#[derive(Drop)]
-enum Listed {
-    All { count: usize, next: usize },
-    Repeated,
+// The attributes of a tag, no two of one name: how many there are, and what stands behind them and blanks.
+#[derive(Clone, Copy)]
+struct Listed {
+    count: usize,
+    next: usize,
 }
 
 // More attributes than these are read by chunks.
@@ -53,135 +50,103 @@ fn is_repeated(s: &[u8], from: usize, count: usize, at: usize, end: usize, marke
     requires { (from ≤ length s.now) × Reached s.now at end × (marked ≡ false → named (part at (end - at) s.now) (attributes_at count (drop from s.now)) ≡ false) }
     ensures { result ≡ named (part at (end - at) s.now) (attributes_at count (drop from s.now)) }
 {
-    if !marked {
-        return false;
-    }
-    match find_attribute(s, from, count, &s[at..end]) {
-        Span::Given {
-            name: _,
-            name_end: _,
-            from: _,
-            to: _,
-            next: _,
-        } => true,
-        Span::Missing => false,
-    }
+    marked && find_attribute(s, from, count, &s[at..end]).is_some()
 }
 
 // The attributes of a tag whose name ends at `at`, chunk by chunk.
-fn many(s: &[u8], at: usize) -> Listed
+fn many(s: &[u8], at: usize) -> Option<Listed>
     requires { at ≤ length s.now }
     ensures { ListedAt s.now at result }
 {
     let mut i = at;
     let mut k = 0;
     loop {
-        match read_chunk(s, i) {
-            Chunk::Read { count, end } => {
-                if count == 0 {
-                    return Listed::All {
-                        count: k,
-                        next: blanks_end(s, end),
-                    };
-                }
-                i = end;
-                k += count;
-            }
-            Chunk::Twice => {
-                return Listed::Repeated;
-            }
+        let chunk = read_chunk(s, i)?;
+        if chunk.count == 0 {
+            return Some(Listed {
+                count: k,
+                next: blanks_end(s, chunk.end),
+            });
         }
+        i = chunk.end;
+        k += chunk.count;
     }
 }
 
 // The attributes of a tag whose name ends at `at`.
-fn attributes(s: &[u8], at: usize) -> Listed
+fn attributes(s: &[u8], at: usize) -> Option<Listed>
     requires { at ≤ length s.now }
     ensures { ListedAt s.now at result }
 {
-    let mut marks = [0u8; 64];
+    let mut marks = [false; 64];
     let mut i = at;
     let mut k = 0;
     loop {
         let behind = blanks_end(s, i);
-        match attribute_behind(s, i, behind) {
-            Span::Given {
-                name,
-                name_end,
-                from: _,
-                to: _,
-                next,
-            } => {
-                if k == FEW {
-                    return many(s, at);
-                }
-                let m = mark_of(s, name, name_end);
-                if is_repeated(s, at, k, name, name_end, marks[m] != 0) {
-                    return Listed::Repeated;
-                }
-                marks[m] = 1;
-                i = next;
-                k += 1;
-            }
-            Span::Missing => {
-                return Listed::All {
-                    count: k,
-                    next: behind,
-                };
-            }
+        let Some(a) = attribute_behind(s, i, behind) else {
+            return Some(Listed {
+                count: k,
+                next: behind,
+            });
+        };
+        if k == FEW {
+            return many(s, at);
         }
+        let m = mark_of(s, a.name, a.name_end);
+        if is_repeated(s, at, k, a.name, a.name_end, marks[m]) {
+            return None;
+        }
+        marks[m] = true;
+        i = a.next;
+        k += 1;
     }
 }
 
 // The end of a tag, behind its attributes and blanks.
-fn tag_end(s: &[u8], named: usize, count: usize, at: usize) -> Tagged
+fn tag_end(s: &[u8], name_end: usize, count: usize, at: usize) -> Option<StartTag>
     requires { at ≤ length s.now }
-    ensures { EndAt s.now named count at result }
+    ensures { EndAt s.now name_end count at result }
 {
     if stands(s, at, b"/>") {
-        return Tagged::Opened {
-            name_end: named,
+        return Some(StartTag {
+            name_end,
             count,
             next: at + 2,
             empty: true,
-        };
+        });
     }
     if stands(s, at, b">") {
-        return Tagged::Opened {
-            name_end: named,
+        return Some(StartTag {
+            name_end,
             count,
             next: at + 1,
             empty: false,
-        };
+        });
     }
-    Tagged::Unopened
+    None
 }
 
 // The start tag whose name begins at `at`, behind its `<`.
-pub(crate) fn start_tag(s: &[u8], at: usize) -> Tagged
+pub(crate) fn start_tag(s: &[u8], at: usize) -> Option<StartTag>
     requires { at ≤ length s.now }
     ensures { TagAt s.now at result }
 {
     let name_end = name_end(s, at);
     if name_end == at {
-        return Tagged::Unopened;
+        return None;
     }
-    match attributes(s, name_end) {
-        Listed::All { count, next } => tag_end(s, name_end, count, next),
-        Listed::Repeated => Tagged::Unopened,
-    }
+    let all = attributes(s, name_end)?;
+    tag_end(s, name_end, all.count, all.next)
 }
 
 // Past the end tag of the name from `from` to `to`.
-pub(crate) fn end_tag(s: &[u8], at: usize, from: usize, to: usize) -> Walk
+pub(crate) fn end_tag(s: &[u8], at: usize, from: usize, to: usize) -> Result<usize, Fault>
     requires { (at ≤ length s.now) × Reached s.now from to }
     ensures { Walked s.now at (end_tag (part from (to - from) s.now) (drop at s.now)) result }
 {
     if !stands(s, at, b"</") {
-        return Walk::Off(MALFORMED);
+        return Err(Fault::Malformed);
     }
-    match expected(s, at + 2, &s[from..to]) {
-        Walk::At(e) => expected(s, blanks_end(s, e), b">"),
-        Walk::Off(n) => Walk::Off(n),
-    }
+    let e = expected(s, at + 2, &s[from..to])?;
+    expected(s, blanks_end(s, e), b">")
 }

@@ -1,12 +1,12 @@
 // Values between quote marks.
-ghost use Rattle.std.specs.Prelude.{◌≡◌, true, ◌+◌, ◌≤◌, ◌<◌, length, drop};
-ghost use Rattle.markup.specs.Marks.{entities, entity_of, value_unit, quotable, quote_mark};
-ghost use Rattle.markup.specs.Walks.{plain};
+ghost use Rattle.std.specs.Prelude.{◌≡◌, true, ◌+◌, ◌≤◌, ◌<◌, length, drop, MatchOption};
+ghost use Rattle.markup.specs.Marks.{value_unit, quotable, quote_mark};
+ghost use Rattle.markup.specs.Walks.{plain, NoEntity, EntityIs, UnitIs};
 
 use crate::marks::stands;
 
-// An entity: how many bytes it takes, none if it is none, and the byte that it means.
-#[derive(Drop)]
+// A byte or an entity in a value: how many bytes it takes, and the byte that it means.
+#[derive(Clone, Copy)]
 pub(crate) struct Entity {
     pub length: usize,
     pub byte: u8,
@@ -18,57 +18,58 @@ pub(crate) fn is_quote_mark(b: u8) -> bool
     (b == b'"') | (b == b'\'')
 }
 
-// The entity at index i.
-pub(crate) fn entity_at(s: &[u8], i: usize) -> Entity
+// The entity at index i. A test for each of the five: a table of them and a loop are no shorter.
+pub(crate) fn entity_at(s: &[u8], i: usize) -> Option<Entity>
     requires { i ≤ length s.now }
-    ensures { (result.length ≡ length (entity_of entities (drop i s.now)).text) × (result.byte ≡ (entity_of entities (drop i s.now)).byte) × (i + result.length ≤ length s.now) }
+    ensures { MatchOption result (NoEntity s.now i) (λ e. EntityIs s.now i e.length e.byte) }
 {
     if stands(s, i, b"&lt;") {
-        return Entity {
+        return Some(Entity {
             length: 4,
             byte: b'<',
-        };
+        });
     }
     if stands(s, i, b"&gt;") {
-        return Entity {
+        return Some(Entity {
             length: 4,
             byte: b'>',
-        };
+        });
     }
     if stands(s, i, b"&amp;") {
-        return Entity {
+        return Some(Entity {
             length: 5,
             byte: b'&',
-        };
+        });
     }
     if stands(s, i, b"&apos;") {
-        return Entity {
+        return Some(Entity {
             length: 6,
             byte: b'\'',
-        };
+        });
     }
     if stands(s, i, b"&quot;") {
-        return Entity {
+        return Some(Entity {
             length: 6,
             byte: b'"',
-        };
+        });
     }
-    Entity { length: 0, byte: 0 }
+    None
 }
 
-// How many bytes the byte or entity at index i takes, 0 if neither may stand there.
-fn unit_length(s: &[u8], i: usize) -> usize
+// How many bytes the byte or entity at index i takes, if one may stand there.
+fn unit_length(s: &[u8], i: usize) -> Option<usize>
     requires { i < length s.now }
-    ensures { (result ≡ value_unit (drop i s.now)) × (i + result ≤ length s.now) }
+    ensures { MatchOption result (value_unit (drop i s.now) ≡ 0) (UnitIs s.now i) }
 {
     let b = s[i];
     if b == b'<' {
-        return 0;
+        return None;
     }
     if b == b'&' {
-        return entity_at(s, i).length;
+        let e = entity_at(s, i)?;
+        return Some(e.length);
     }
-    1
+    Some(1)
 }
 
 // A byte that may stand in a value and is no entity's first.
@@ -84,10 +85,8 @@ fn are_plain(s: &[u8], i: usize) -> bool
     ensures { result ≡ true → quotable (drop i s.now) ≡ quotable (drop (i + 16) s.now) }
 {
     let mut all = true;
-    let mut k = 0;
-    while k < 16 {
+    for k in 0..16 {
         all = all & is_plain(s[i + k]);
-        k += 1;
     }
     all
 }
@@ -111,10 +110,9 @@ pub(crate) fn is_quotable(s: &[u8]) -> bool
 {
     let mut i = skip_plain(s);
     while i < s.len() {
-        let n = unit_length(s, i);
-        if n == 0 {
+        let Some(n) = unit_length(s, i) else {
             return false;
-        }
+        };
         i += n;
     }
     true

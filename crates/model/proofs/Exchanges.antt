@@ -7,7 +7,7 @@ use mathlib.Core.List.{List, [], ◌∷◌, ◌++◌, append-nil}
 use native.Mathlib.Omega.{arith}
 use lib.ListN.{length, take, drop, length-append}
 use Rattle.chars.specs.Folding.{fold, order}
-use Rattle.chars.specs.declared.folding.Order.TheVariants.{Less}
+use Rattle.std.specs.declared.cmp.Ordering.TheVariants.{Less}
 use Rattle.chars.proofs.Orders.{less_equal, order_refl}
 use Rattle.chars.proofs.Equivalence.{equivalent_fold, fold_equivalent}
 use Rattle.model.specs.Sets.{Bytes, then_by, key_order, before, filter, sum_of, insert, Each, AllPairs, Sorted}

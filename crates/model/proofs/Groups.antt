@@ -15,8 +15,8 @@ use Rattle.chars.specs.Lists.{same}
 use Rattle.chars.specs.Folding.{fold, equivalent, order}
 use Rattle.chars.proofs.Equivalence.{equivalent_fold, equivalent_refl}
 use Rattle.chars.proofs.Orders.{order_refl}
-use Rattle.chars.specs.declared.folding.Order.{Order}
-use Rattle.chars.specs.declared.folding.Order.TheVariants.{Less, Equal, Greater}
+use Rattle.std.specs.declared.cmp.Ordering.{Ordering}
+use Rattle.std.specs.declared.cmp.Ordering.TheVariants.{Less, Equal, Greater}
 use Rattle.names.specs.Types.{identifier}
 use Rattle.names.proofs.Lengths.{identifier_first}
 use Rattle.model.specs.Sets.{Bytes, then_by, key_order, is_less, is_equal, before, Each, AllPairs, Sorted}
@@ -135,7 +135,7 @@ source_between s rs o z =
     parted : (r : Relationship) → order r.id (tilde ∷ []) ≡ Less → Parted p q eqv r
     parted r l = rw (l, ← order_same (fold r.source) (fold s)) (go (order (fold r.source) (fold s)))
       where
-        go : (o : Order) → (not (is_less (then_by o Less)) ≡ true → not (is_less (then_by o (order r.id []))) ≡ true)
+        go : (o : Ordering) → (not (is_less (then_by o Less)) ≡ true → not (is_less (then_by o (order r.id []))) ≡ true)
             × (is_equal o ≡ (not (is_less (then_by o (order r.id []))) && not (not (is_less (then_by o Less)))))
         go Less = ((λ e. e), refl)
         go Equal = rw (least_text r.id) ((λ e. refl), refl)

@@ -16,6 +16,9 @@ use Rattle.names.specs.Names.{part_name, reserved, last_segment, folder}
 use Rattle.names.specs.Items.{item_name, item_refusal, unless_no_slash, as_item, as_piece, named, suffix}
 use Rattle.names.specs.declared.items.Suffix.{Suffix}
 use Rattle.names.specs.declared.items.Suffix.TheVariants.{Whole, Piece}
+use Rattle.output.specs.declared.refusals.Refusal.{Refusal}
+use Rattle.output.specs.declared.refusals.Refusal.TheVariants.{NotAPartName, BadSuffix}
+use Rattle.output.proofs.Answering.{number_some}
 use Rattle.names.specs.declared.items.ItemName.{ItemName}
 use Rattle.names.specs.declared.items.ItemName.TheVariants.{Named, Refused}
 use Rattle.model.specs.Sets.{Bytes, Each}
@@ -25,8 +28,8 @@ use Rattle.model.specs.Good.{Good}
 use Rattle.model.proofs.Lists.{each_map}
 use Rattle.model.proofs.Refusals.{all_none, unmet}
 
-named_refused : (n k : ℕ) (x : Suffix) → Named n x ≡ Refused k → ⊥
-named_refused n k x e = let z : ◌≡◌ {A = ℕ} 0 1 = cc in omega arith
+named_refused : (n : ℕ) (r : Refusal) (x : Suffix) → Named n x ≡ Refused r → ⊥
+named_refused n r x e = cc e
 
 -- what a split name says
 pub prefix_named : (s : Bytes) (n : ℕ) (x : Suffix) → item_name s ≡ Named n x → prefix_of s ≡ take n s
@@ -50,7 +53,7 @@ prefix_part s n x h = go (eqb (after_last slash s) 0) (eqb (get_or (last_segment
         let p : m ≡ n = cc in
         let q : y ≡ x = cc in
         (ap (λ (k : ℕ). part_name (take k s)) (sym p) ∙ e, omega arith, λ r. sym p ∙ w (q ∙ r))
-    as_part false m y e l w f = absurd (named_refused n 4 x (sym f))
+    as_part false m y e l w f = absurd (named_refused n NotAPartName x (sym f))
 
     before_slash : after_last slash s - 1 ≤ length s
     before_slash = omega (arith, last_le slash s)
@@ -62,7 +65,7 @@ prefix_part s n x h = go (eqb (after_last slash s) 0) (eqb (get_or (last_segment
     piece_whole k l e = let z : ◌≡◌ {A = ℕ} 0 1 = cc in absurd (omega arith)
 
     piece : (u : Suffix) → as_piece u (folder s) ≡ Named n x → (part_name (take n s) ≡ true) × (n ≤ length s) × (x ≡ Whole → n ≡ length s)
-    piece Whole f = absurd (named_refused n 6 x (sym f))
+    piece Whole f = absurd (named_refused n BadSuffix x (sym f))
     piece (Piece k l) f = as_part (part_name (take (length (folder s)) s)) (length (folder s)) (Piece k l) refl
         (omega (arith, length_folder, before_slash)) (piece_whole k l)
         (sym (ap (λ (b : Bool). named b (length (folder s)) (Piece k l)) whole_folder) ∙ f)
@@ -72,7 +75,7 @@ prefix_part s n x h = go (eqb (after_last slash s) 0) (eqb (get_or (last_segment
 
     go : (a b : Bool) → unless_no_slash a (as_item b s) ≡ Named n x →
         (part_name (take n s) ≡ true) × (n ≤ length s) × (x ≡ Whole → n ≡ length s)
-    go true b f = absurd (named_refused n 4 x (sym f))
+    go true b f = absurd (named_refused n NotAPartName x (sym f))
     go false true f = piece (suffix (last_segment s)) f
     go false false f = as_part (part_name s) (length s) Whole (ap part_name (take-length s)) (omega arith) (λ e. refl) f
 
@@ -106,34 +109,13 @@ prefix_rest s = go (item_name s)
     go (Named n x) = append_rest (take n s) (drop n s) s (take-append-drop n s)
     go (Refused k) = append_rest s [] s (append-nil s)
 
--- no refusal number is 0
-pub refused_number : (s : Bytes) (k : ℕ) → item_name s ≡ Refused k → k ≡ 0 → ⊥
-unfolding item_name
-refused_number s k h z = go (eqb (after_last slash s) 0) (eqb (get_or (last_segment s) 0 0) open_bracket) h
-  where
-    four : Refused 4 ≡ Refused k → ⊥
-    four e = let m : ◌≡◌ {A = ℕ} 4 k = cc in omega arith
-
-    as_named : (b : Bool) (n : ℕ) (x : Suffix) → named b n x ≡ Refused k → ⊥
-    as_named true n x e = named_refused n k x e
-    as_named false n x e = four e
-
-    piece : (u : Suffix) → as_piece u (folder s) ≡ Refused k → ⊥
-    piece Whole e = let m : ◌≡◌ {A = ℕ} 6 k = cc in omega arith
-    piece (Piece j l) e = as_named (part_name (folder s)) (length (folder s)) (Piece j l) e
-
-    go : (a b : Bool) → unless_no_slash a (as_item b s) ≡ Refused k → ⊥
-    go true b e = four e
-    go false true e = piece (suffix (last_segment s)) e
-    go false false e = as_named (part_name s) (length s) Whole e
-
 -- a name that splits: its prefix is a part name
 pub asked_prefix : (s : Bytes) → asked_field s ≡ 0 → part_name (prefix_of s) ≡ true
 asked_prefix s h = splits (item_name s) refl h
   where
     splits : (m : ItemName) → item_name s ≡ m → item_refusal m ≡ 0 → part_name (prefix_of s) ≡ true
     splits (Named n x) e f = ap part_name (prefix_named s n x e) ∙ (prefix_part s n x e).0
-    splits (Refused k) e f = absurd (refused_number s k e f)
+    splits (Refused r) e f = absurd (number_some r f)
 
 -- an accepted item name: its prefix is unreserved too
 pub accepted_prefix : (s : Bytes) → item_field s ≡ 0 → (part_name (prefix_of s) ≡ true) × (reserved (prefix_of s) ≡ false)

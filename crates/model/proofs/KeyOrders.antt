@@ -3,8 +3,8 @@
 use mathlib.Core.Path.{◌≡◌, refl, ap, sym, ◌∙◌}
 use mathlib.Core.Bool.{true, false, true≢false}
 use Rattle.chars.specs.Folding.{order}
-use Rattle.chars.specs.declared.folding.Order.{Order}
-use Rattle.chars.specs.declared.folding.Order.TheVariants.{Less, Equal, Greater}
+use Rattle.std.specs.declared.cmp.Ordering.{Ordering}
+use Rattle.std.specs.declared.cmp.Ordering.TheVariants.{Less, Equal, Greater}
 use Rattle.chars.proofs.Orders.{less_equal, less_greater, equal_greater, order_refl, order_equal, order_less, order_greater, order_trans}
 use Rattle.model.specs.Sets.{Bytes, Key, then_by, key_order, is_less, is_equal, before, same_key}
 use Rattle.base.proofs.Bools.{not_passing}
@@ -22,7 +22,7 @@ pub key_equal : (a b : Key) → key_order a b ≡ Equal → (a.0 ≡ b.0) × (a.
 unfolding key_order then_by
 key_equal a b h = go (order a.0 b.0) refl h
   where
-    go : (o : Order) → order a.0 b.0 ≡ o → then_by o (order a.1 b.1) ≡ Equal → (a.0 ≡ b.0) × (a.1 ≡ b.1)
+    go : (o : Ordering) → order a.0 b.0 ≡ o → then_by o (order a.1 b.1) ≡ Equal → (a.0 ≡ b.0) × (a.1 ≡ b.1)
     go Less e h = absurd (less_equal h)
     go Equal e h = (order_equal a.0 b.0 e, order_equal a.1 b.1 h)
     go Greater e h = absurd (equal_greater (sym h))
@@ -31,7 +31,7 @@ pub key_greater : (a b : Key) → key_order a b ≡ Greater → key_order b a �
 unfolding key_order then_by
 key_greater a b h = go (order a.0 b.0) refl h
   where
-    go : (o : Order) → order a.0 b.0 ≡ o → then_by o (order a.1 b.1) ≡ Greater →
+    go : (o : Ordering) → order a.0 b.0 ≡ o → then_by o (order a.1 b.1) ≡ Greater →
         then_by (order b.0 a.0) (order b.1 a.1) ≡ Less
     go Less e h = absurd (less_greater h)
     go Equal e h = rw (order_equal a.0 b.0 e, order_refl b.0) (order_greater a.1 b.1 h)
@@ -42,7 +42,7 @@ unfolding key_order then_by
 key_trans a b c h k = go (order a.0 b.0) refl (order b.0 c.0) refl h k
   where
     go :
-        (o : Order) → order a.0 b.0 ≡ o → (o' : Order) → order b.0 c.0 ≡ o' → then_by o (order a.1 b.1) ≡ Less →
+        (o : Ordering) → order a.0 b.0 ≡ o → (o' : Ordering) → order b.0 c.0 ≡ o' → then_by o (order a.1 b.1) ≡ Less →
         then_by o' (order b.1 c.1) ≡ Less →
         then_by (order a.0 c.0) (order a.1 c.1) ≡ Less
     go Less e Less f h k = rw (order_trans a.0 b.0 c.0 e f)
@@ -62,17 +62,17 @@ key_alike a b c h =
     rw (e.0, e.1)
 
 -- THE TESTS
-pub is_less_lem : (o : Order) → is_less o ≡ true → o ≡ Less
+pub is_less_lem : (o : Ordering) → is_less o ≡ true → o ≡ Less
 is_less_lem Less e = refl
 is_less_lem Equal e = absurd (true≢false (sym e))
 is_less_lem Greater e = absurd (true≢false (sym e))
 
-pub is_equal_lem : (o : Order) → is_equal o ≡ true → o ≡ Equal
+pub is_equal_lem : (o : Ordering) → is_equal o ≡ true → o ≡ Equal
 is_equal_lem Less e = absurd (true≢false (sym e))
 is_equal_lem Equal e = refl
 is_equal_lem Greater e = absurd (true≢false (sym e))
 
-is_greater : (o : Order) → is_less o ≡ false → is_equal o ≡ false → o ≡ Greater
+is_greater : (o : Ordering) → is_less o ≡ false → is_equal o ≡ false → o ≡ Greater
 is_greater Less e f = absurd (true≢false e)
 is_greater Equal e f = absurd (true≢false f)
 is_greater Greater e f = refl
@@ -122,9 +122,9 @@ unfolding key_order then_by
 between a b c h k e = go (order a.0 b.0) refl (is_less_lem (key_order a b) h)
   where
     after_it : order b.0 c.0 ≡ Greater → ⊥
-    after_it f = less_greater (sym (is_less_lem (key_order b c) k) ∙ ap (λ (o : Order). then_by o (order b.1 c.1)) f)
+    after_it f = less_greater (sym (is_less_lem (key_order b c) k) ∙ ap (λ (o : Ordering). then_by o (order b.1 c.1)) f)
 
-    go : (o : Order) → order a.0 b.0 ≡ o → then_by o (order a.1 b.1) ≡ Less → a.0 ≡ b.0
+    go : (o : Ordering) → order a.0 b.0 ≡ o → then_by o (order a.1 b.1) ≡ Less → a.0 ≡ b.0
     go Less f l = absurd (after_it (ap (order b.0) (sym e) ∙ order_less a.0 b.0 f))
     go Equal f l = order_equal a.0 b.0 f
     go Greater f l = absurd (less_greater (sym l))
@@ -134,7 +134,7 @@ pub begins_less : (a b : Key) → before a b ≡ true → (a.0 ≡ b.0 → ⊥) 
 unfolding key_order then_by
 begins_less a b h n = go (order a.0 b.0) refl (is_less_lem (key_order a b) h)
   where
-    go : (o : Order) → order a.0 b.0 ≡ o → then_by o (order a.1 b.1) ≡ Less → order a.0 b.0 ≡ Less
+    go : (o : Ordering) → order a.0 b.0 ≡ o → then_by o (order a.1 b.1) ≡ Less → order a.0 b.0 ≡ Less
     go Less f l = f
     go Equal f l = absurd (n (order_equal a.0 b.0 f))
     go Greater f l = absurd (less_greater (sym l))
@@ -143,17 +143,17 @@ begins_less a b h n = go (order a.0 b.0) refl (is_less_lem (key_order a b) h)
 pub goes_on_less : (a b : Key) → before a b ≡ true → a.0 ≡ b.0 → order a.1 b.1 ≡ Less
 unfolding key_order then_by
 goes_on_less a b h e =
-    sym (ap (λ (o : Order). then_by o (order a.1 b.1)) (ap (λ (s : Bytes). order s b.0) e ∙ order_refl b.0))
+    sym (ap (λ (o : Ordering). then_by o (order a.1 b.1)) (ap (λ (s : Bytes). order s b.0) e ∙ order_refl b.0))
     ∙ is_less_lem (key_order a b) h
 
 -- the order of keys, by their first texts
 pub text_less : (a c : Key) → order a.0 c.0 ≡ Less → before a c ≡ true
 unfolding key_order then_by
-text_less a c e = ap (λ (o : Order). is_less (then_by o (order a.1 c.1))) e
+text_less a c e = ap (λ (o : Ordering). is_less (then_by o (order a.1 c.1))) e
 
 pub text_greater : (a c : Key) → order a.0 c.0 ≡ Greater → before a c ≡ false
 unfolding key_order then_by
-text_greater a c e = ap (λ (o : Order). is_less (then_by o (order a.1 c.1))) e
+text_greater a c e = ap (λ (o : Ordering). is_less (then_by o (order a.1 c.1))) e
 
 pub before_text : (a c : Key) → before a c ≡ true → (order a.0 c.0 ≡ Greater → ⊥)
 before_text a c l e = true≢false (sym l ∙ text_greater a c e)

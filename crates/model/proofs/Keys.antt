@@ -9,8 +9,8 @@ use lib.Dec.{ltb, eqb}
 use borrow.Author.Tests.{ltb-true, ltb-false, eq-eqb, ne_eqb}
 use Rattle.chars.specs.Lists.{same}
 use Rattle.chars.specs.Folding.{fold, equivalent, order, folded_order}
-use Rattle.chars.specs.declared.folding.Order.{Order}
-use Rattle.chars.specs.declared.folding.Order.TheVariants.{Less, Equal, Greater}
+use Rattle.std.specs.declared.cmp.Ordering.{Ordering}
+use Rattle.std.specs.declared.cmp.Ordering.TheVariants.{Less, Equal, Greater}
 use Rattle.base.proofs.Bools.{and_right_true}
 use Rattle.chars.proofs.Orders.{less_equal, less_greater}
 use Rattle.model.specs.Sets.{Bytes, Key, then_by, key_order, is_equal, same_key}
@@ -18,7 +18,7 @@ use Rattle.model.specs.Fields.{prefix_of, suffix_of}
 use Rattle.model.specs.Package.{rank, item_key, name_key, relationship_key}
 
 -- the comparison of two numbers
-abbrev pub number_order : ℕ → ℕ → Order
+abbrev pub number_order : ℕ → ℕ → Ordering
 number_order m n = cond (ltb m n) Less (cond (ltb n m) Greater Equal)
 
 pub number_less : (m n : ℕ) → number_order m n ≡ Less → m < n
@@ -49,7 +49,7 @@ same_key_lem : (a b : Key) → same_key a b ≡ same a.0 b.0 && same a.1 b.1
 unfolding key_order then_by
 same_key_lem a b = both (order a.0 b.0) (order a.1 b.1) ∙ ap₂ ◌&&◌ (order_same a.0 b.0) (order_same a.1 b.1)
   where
-    both : (o q : Order) → is_equal (then_by o q) ≡ is_equal o && is_equal q
+    both : (o q : Ordering) → is_equal (then_by o q) ≡ is_equal o && is_equal q
     both Less q = refl
     both Equal q = refl
     both Greater q = refl
@@ -75,7 +75,7 @@ pub name_key_order : (s t : Bytes) → key_order (name_key s) (name_key t) ≡ f
 unfolding key_order then_by folded_order order
 name_key_order s t = go (order (fold s) (fold t))
   where
-    go : (o : Order) → then_by o Equal ≡ o
+    go : (o : Ordering) → then_by o Equal ≡ o
     go Less = refl
     go Equal = refl
     go Greater = refl

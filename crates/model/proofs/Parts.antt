@@ -7,7 +7,7 @@ use mathlib.Core.List.{List, [], ◌∷◌, ◌++◌, map, append-nil, map-appen
 use native.Mathlib.Omega.{arith}
 use lib.ListN.{length, take, drop, take-append-drop, length-drop, length-map}
 use Rattle.chars.specs.Folding.{fold, equivalent, order}
-use Rattle.chars.specs.declared.folding.Order.TheVariants.{Less}
+use Rattle.std.specs.declared.cmp.Ordering.TheVariants.{Less}
 use Rattle.chars.proofs.Equivalence.{equivalent_fold, fold_equivalent}
 use Rattle.names.specs.Names.{part_name, reserved}
 use Rattle.model.specs.Sets.{Bytes, before, filter, Each, AllPairs, Sorted}

@@ -10,7 +10,7 @@ use lib.ListN.{length, take}
 use borrow.Author.Tests.{ltb-false, eqb-true, eq-eqb}
 use Rattle.chars.specs.Lists.{same, begins}
 use Rattle.chars.specs.Folding.{order}
-use Rattle.chars.specs.declared.folding.Order.TheVariants.{Less, Greater}
+use Rattle.std.specs.declared.cmp.Ordering.TheVariants.{Less, Greater}
 use Rattle.base.proofs.Bools.{and_left, and_right, and_true}
 use Rattle.chars.proofs.Orders.{less_greater}
 

@@ -7,8 +7,8 @@ use mathlib.Core.List.{List, [], ◌∷◌, ◌++◌, append-nil}
 use lib.ListN.{take, drop, take-append-drop}
 use Rattle.chars.specs.Lists.{same}
 use Rattle.chars.specs.Folding.{order}
-use Rattle.chars.specs.declared.folding.Order.{Order}
-use Rattle.chars.specs.declared.folding.Order.TheVariants.{Less}
+use Rattle.std.specs.declared.cmp.Ordering.{Ordering}
+use Rattle.std.specs.declared.cmp.Ordering.TheVariants.{Less}
 use Rattle.chars.proofs.Equivalence.{same_eq, eq_same}
 use Rattle.model.specs.Sets.{Bytes, Key, then_by, key_order, is_less, before, filter, Each, Sorted}
 use Rattle.model.specs.Places.{first_where, bound, lead}
@@ -74,7 +74,7 @@ module _ {E : Type 0} (key : E → Key) (t : Bytes) where
             let z_t : (key z).0 ≡ t = same_eq (key z).0 t e in
             let f : order (key x).0 (key z).0 ≡ Less =
             begins_less (key x) (key z) l (λ q. true≢false (sym (eq_same (key x).0 t (q ∙ z_t)) ∙ n)) in
-            ap (λ (o : Order). is_less (then_by o (order (key x).1 u))) (ap (order (key x).0) (sym z_t) ∙ f)
+            ap (λ (o : Ordering). is_less (then_by o (order (key x).1 u))) (ap (order (key x).0) (sym z_t) ∙ f)
 
     pub span : (xs : List E) → Sorted key xs →
         filter headed xs ≡ take (lead headed (drop (bound key (t, u) xs) xs)) (drop (bound key (t, u) xs) xs)

@@ -3,8 +3,8 @@
 use Rattle.std.specs.Prelude.{ℕ, ◌+◌, ◌≡◌, ◌⊎◌, Bool, true, false, ◌||◌, cond, List, [], ◌∷◌}
 use Rattle.std.proofs.Math.Option.{Option, none, some}
 use Rattle.chars.specs.Folding.{order}
-use Rattle.chars.specs.declared.folding.Order.{Order}
-use Rattle.chars.specs.declared.folding.Order.TheVariants.{Less, Equal, Greater}
+use Rattle.std.specs.declared.cmp.Ordering.{Ordering}
+use Rattle.std.specs.declared.cmp.Ordering.TheVariants.{Less, Equal, Greater}
 
 abbrev pub Bytes : Type 0
 Bytes = List ℕ
@@ -13,21 +13,21 @@ Bytes = List ℕ
 abbrev pub Key : Type 0
 Key = Bytes × Bytes
 
-unfoldable pub then_by : Order → Order → Order
+unfoldable pub then_by : Ordering → Ordering → Ordering
 then_by Less o = Less
 then_by Equal o = o
 then_by Greater o = Greater
 
 -- "byte by byte; a proper prefix comes first" (a text of a key is already folded where document 01 folds it)
-unfoldable pub key_order : Key → Key → Order
+unfoldable pub key_order : Key → Key → Ordering
 key_order a b = then_by (order a.0 b.0) (order a.1 b.1)
 
-abbrev pub is_less : Order → Bool
+abbrev pub is_less : Ordering → Bool
 is_less Less = true
 is_less Equal = false
 is_less Greater = false
 
-abbrev pub is_equal : Order → Bool
+abbrev pub is_equal : Ordering → Bool
 is_equal Less = false
 is_equal Equal = true
 is_equal Greater = false

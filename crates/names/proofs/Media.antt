@@ -5,7 +5,7 @@ use mathlib.Core.Bool.{Bool, true, false, not, ◌&&◌, ◌||◌, cond, false�
 use mathlib.Core.List.{List, [], ◌∷◌}
 use mathlib.Core.Logic.{⊎_elim}
 use Prim.Native.Nat.{ℕ, suc, ◌+◌, ◌≤◌, ◌<◌}
-use native.Mathlib.Nat.{eq-or-lt_of_le, add-zero}
+use native.Mathlib.Nat.{eq-or-lt_of_le}
 use native.Mathlib.Omega.{arith}
 use lib.Dec.{eqb, ltb}
 use lib.ListN.{length, drop, get_or, length-drop}
@@ -18,16 +18,18 @@ use Rattle.base.proofs.Bools.{or_false_left, or_false_right, passing, not_passin
 use Rattle.chars.proofs.Searches.{first_le, index_le}
 use Rattle.chars.proofs.Splits.{split_last, split_more, split_some}
 use Rattle.names.specs.Types.{token_pair, type_and_parameters}
+use Rattle.std.specs.Prelude.{Option, Some, None}
+use Rattle.std.specs.Option.{option_map, is_some, unwrap_or}
 use Rattle.names.specs.Reading.{Parts, stretch, pair_length}
 use Rattle.names.proofs.Tokens.{first_end, second_end, PairRead, pair_read, pair_made}
 
-pair_length_lem : (b : ℕ) (u : List ℕ) (q : Bool) → token_pair b (stretch u) ≡ q → pair_length b u ≡ cond q (index_of semicolon u) 0
+pair_length_lem : (b : ℕ) (u : List ℕ) (q : Bool) → token_pair b (stretch u) ≡ q → pair_length b u ≡ cond q (Some (index_of semicolon u)) None
 unfolding pair_length
 pair_length_lem b u q e = rw e
 
 module _ (b : ℕ) (h : Parts b) where
   -- what is not read so has no pair
-  unread : (u : List ℕ) → (PairRead b u → ⊥) → pair_length b u ≡ 0
+  unread : (u : List ℕ) → (PairRead b u → ⊥) → pair_length b u ≡ None
   unread u f = pair_length_lem b u false (not_passing (token_pair b (stretch u)) (λ e. f (pair_read b h u e)))
 
   -- the token from the position `from` on ends at i, the one from i + 1 on at e
@@ -44,11 +46,11 @@ module _ (b : ℕ) (h : Parts b) where
     second_byte : get_or (drop from s) (second_end (drop from s)) 0 ≡ get_or s e 0
     second_byte = get_or-drop from s (second_end (drop from s)) 0 ∙ ap (λ (n : ℕ). get_or s n 0) (sym second_is)
 
-    read_not : (PairRead b (drop from s) → ⊥) → from ≡ from + pair_length b (drop from s)
-    read_not f = sym (ap (λ (n : ℕ). from + n) (unread (drop from s) f) ∙ add-zero from)
+    read_not : (PairRead b (drop from s) → ⊥) → None ≡ option_map (λ (n : ℕ). from + n) (pair_length b (drop from s))
+    read_not f = sym (ap (option_map (λ (n : ℕ). from + n)) (unread (drop from s) f))
 
     module _ (x : ℕ) (read : x ≡ get_or s i 0) where
-      pub first_missing : (eqb i from || not (eqb x b)) ≡ true → from ≡ from + pair_length b (drop from s)
+      pub first_missing : (eqb i from || not (eqb x b)) ≡ true → None ≡ option_map (λ (n : ℕ). from + n) (pair_length b (drop from s))
       first_missing t = read_not no
         where
           no : PairRead b (drop from s) → ⊥
@@ -61,7 +63,7 @@ module _ (b : ℕ) (h : Parts b) where
           omega (arith, eqb-false i from (or_false_left (eqb i from) _ t), first_le (λ (c : ℕ). not (member Token c)) (drop from s), length-drop from s)
 
       module _ (y : ℕ) (last : y ≡ get_or s e 0) where
-        pub second_missing : (eqb e (i + 1) || (ltb e (length s) && not (eqb y semicolon))) ≡ true → from ≡ from + pair_length b (drop from s)
+        pub second_missing : (eqb e (i + 1) || (ltb e (length s) && not (eqb y semicolon))) ≡ true → None ≡ option_map (λ (n : ℕ). from + n) (pair_length b (drop from s))
         second_missing t = read_not (λ r. false≢true (sym (no r (ltb e (length s)) refl) ∙ t))
           where
             no : PairRead b (drop from s) → (q : Bool) → ltb e (length s) ≡ q → (eqb e (i + 1) || (q && not (eqb y semicolon))) ≡ false
@@ -70,8 +72,8 @@ module _ (b : ℕ) (h : Parts b) where
                 rw (ne_eqb e (i + 1) (λ z. omega (arith, r.more, second_is)), eq-eqb y semicolon (last ∙ sym second_byte ∙ r.ended l))
             no r false q = rw (ne_eqb e (i + 1) (λ z. omega (arith, r.more, second_is)))
 
-        pub pair_found : (eqb i from || not (eqb x b)) ≡ false → (eqb e (i + 1) || (ltb e (length s) && not (eqb y semicolon))) ≡ false → e ≡ from + pair_length b (drop from s)
-        pair_found t v = second_is ∙ ap (λ (n : ℕ). from + n) (sym (pair_made b h (drop from s) seen))
+        pub pair_found : (eqb i from || not (eqb x b)) ≡ false → (eqb e (i + 1) || (ltb e (length s) && not (eqb y semicolon))) ≡ false → Some e ≡ option_map (λ (n : ℕ). from + n) (pair_length b (drop from s))
+        pair_found t v = ap Some second_is ∙ ap (option_map (λ (n : ℕ). from + n)) (sym (pair_made b h (drop from s) seen))
           where
             ends : ltb e (length s) ≡ true → not (eqb y semicolon) ≡ false
             ends q = ap (λ (z : Bool). z && not (eqb y semicolon)) (sym q) ∙ or_false_right (eqb e (i + 1)) _ v
@@ -97,24 +99,33 @@ all_headed : (l : List (List ℕ)) → (l ≡ [] → ⊥) → all (token_pair eq
 all_headed [] n = absurd (n refl)
 all_headed (t ∷ ps) n = refl
 
--- a walk over them has come to i, and the pair from there on ends at e
-module _ (b : ℕ) (h : Parts b) (s : List ℕ) (i e : ℕ) (in_s : i ≤ length s) (here : e ≡ i + pair_length b (drop i s)) where
+-- a walk over them has come to i
+module _ (b : ℕ) (h : Parts b) (s : List ℕ) (i : ℕ) (in_s : i ≤ length s) where
   -- the stretch is the last one
   whole_rest : index_of semicolon (drop i s) ≡ length (drop i s) → stretch (drop i s) ≡ drop i s
   whole_rest m = rw (m) (take-length (drop i s))
 
-  pub stretches_not : e ≡ i → headed b (split semicolon (drop i s)) ≡ false
+  -- r tells where the pair ends, if there is one
+  pair_told : (r : Option ℕ) (q : Bool) → token_pair b (stretch (drop i s)) ≡ q → r ≡ option_map (λ (n : ℕ). i + n) (pair_length b (drop i s)) →
+      r ≡ cond q (Some (i + index_of semicolon (drop i s))) None
+  pair_told r true t e = e ∙ ap (option_map (λ (n : ℕ). i + n)) (pair_length_lem b (drop i s) true t)
+  pair_told r false t e = e ∙ ap (option_map (λ (n : ℕ). i + n)) (pair_length_lem b (drop i s) false t)
+
+  pub stretches_not : None ≡ option_map (λ (n : ℕ). i + n) (pair_length b (drop i s)) → headed b (split semicolon (drop i s)) ≡ false
   stretches_not z =
-      let none : token_pair b (stretch (drop i s)) ≡ false = not_passing _ (λ t. omega (arith, here, z, pair_made b h (drop i s) (pair_read b h (drop i s) t))) in
+      let none : token_pair b (stretch (drop i s)) ≡ false = not_passing _ (λ t. false≢true (ap is_some (pair_told None true t z))) in
       ⊎_elim (λ m. rw (split_last semicolon (drop i s) m, ← whole_rest m, none)) (λ l. rw (split_more semicolon (drop i s) l, none))
       (eq-or-lt_of_le (index_le semicolon (drop i s)))
 
-  module _ (n : e ≡ i → ⊥) where
+  module _ (e : ℕ) (here : Some e ≡ option_map (λ (n : ℕ). i + n) (pair_length b (drop i s))) where
     pair_there : token_pair b (stretch (drop i s)) ≡ true
-    pair_there = passing _ (λ t. n (omega (arith, here, pair_length_lem b (drop i s) false t)))
+    pair_there = passing _ (λ t. false≢true (sym (ap is_some (pair_told (Some e) false t here))))
 
     ends_there : e ≡ i + index_of semicolon (drop i s)
-    ends_there = here ∙ ap (λ (k : ℕ). i + k) (pair_length_lem b (drop i s) true pair_there)
+    ends_there = ap (λ (o : Option ℕ). unwrap_or o 0) (pair_told (Some e) true pair_there here)
+
+    pub stretches_from : i ≤ e
+    stretches_from = omega (arith, ends_there)
 
     pub stretches_within : e ≤ length s
     stretches_within = omega (arith, ends_there, index_le semicolon (drop i s), length-drop i s)

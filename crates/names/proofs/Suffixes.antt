@@ -12,18 +12,21 @@ use borrow.Author.Tests.{eq-eqb, ne_eqb, eqb-true, eqb-false}
 use Rattle.chars.specs.Bytes.{ascii, slash, open_bracket, close_bracket}
 use Rattle.chars.specs.Lists.{every, index_of, after_last}
 use Rattle.chars.specs.Folding.{equivalent}
-use Rattle.base.proofs.Bools.{not_passing}
+use Rattle.base.proofs.Bools.{and_false, not_passing}
 use Rattle.base.proofs.Lists.{take_rest}
 use Rattle.chars.proofs.Searches.{index_le, index_found, last_le, last_pos, every_take, every_drop, every_get_or}
 use Rattle.chars.proofs.UnitBytes.{but}
 use Rattle.names.specs.Names.{part_name}
 use Rattle.names.specs.Numbers.{value, numeral}
-use Rattle.names.specs.Reading.{read_number}
-use Rattle.names.specs.Items.{suffix_where, suffix, named, as_piece, item_name}
+use Rattle.names.specs.Reading.{read_numeral}
+use Rattle.names.specs.Items.{refusal_number, suffix_where, suffix, named, as_piece, item_name}
 use Rattle.names.specs.declared.items.Suffix.{Suffix}
 use Rattle.names.specs.declared.items.Suffix.TheVariants.{Whole, Piece}
 use Rattle.names.specs.declared.items.ItemName.TheVariants.{Refused}
-use Rattle.names.proofs.Digits.{read_value}
+use Rattle.std.specs.Prelude.{Option, Some, None, IsSome}
+use Rattle.output.specs.declared.refusals.Refusal.{Refusal}
+use Rattle.output.specs.declared.refusals.Refusal.TheVariants.{NotAPartName, BadSuffix}
+use Rattle.names.proofs.Digits.{was_read, unread}
 use Rattle.names.proofs.NameBytes.{name_slash}
 
 module _ (t : List ℕ) (e : ℕ) (here : e ≡ 0 + index_of close_bracket t) where
@@ -37,23 +40,29 @@ module _ (t : List ℕ) (e : ℕ) (here : e ≡ 0 + index_of close_bracket t) wh
   unfolding suffix numeral
   suffix_none z = rw (at, z)
 
-  pub suffix_is : (l a p : Bool) → l ≡ equivalent (take (length t - e) (drop e t)) (ascii "].last.piece") → a ≡ numeral (take (e - 1) (drop 1 t))
-      → p ≡ equivalent (take (length t - e) (drop e t)) (ascii "].piece")
-      → suffix t ≡ suffix_where (a && (p || l)) (Piece (read_number 0 (take (e - 1) (drop 1 t))) l)
-  unfolding suffix
-  suffix_is l a p el ea ep = rw (el, ea, ep, take_rest t e, at) (go (numeral (take (e - 1) (drop 1 t))) refl (equivalent (drop e t) (ascii "].piece") || equivalent (drop e t) (ascii "].last.piece")))
-    where
-      go : (n : Bool) → numeral (take (e - 1) (drop 1 t)) ≡ n → (q : Bool)
-          → suffix_where (n && q) (Piece (value 0 (take (e - 1) (drop 1 t))) (equivalent (drop e t) (ascii "].last.piece")))
-          ≡ suffix_where (n && q) (Piece (read_number 0 (take (e - 1) (drop 1 t))) (equivalent (drop e t) (ascii "].last.piece")))
-      go true f q = rw (read_value (take (e - 1) (drop 1 t)) f)
-      go false f q = refl
+  -- the two endings are told, and what is read of the number before them
+  module _ (l p : Bool) (el : l ≡ equivalent (take (length t - e) (drop e t)) (ascii "].last.piece"))
+      (ep : p ≡ equivalent (take (length t - e) (drop e t)) (ascii "].piece")) where
+    told : suffix t ≡ suffix_where (numeral (take (e - 1) (drop 1 t)) && (p || l)) (Piece (value 0 (take (e - 1) (drop 1 t))) l)
+    unfolding suffix
+    told = rw (el, ep, take_rest t e, at)
+
+    pub suffix_unended : (p || l) ≡ false → suffix t ≡ Whole
+    suffix_unended f = told ∙ rw (f, and_false)
+
+    pub suffix_unnumbered : None ≡ read_numeral (take (e - 1) (drop 1 t)) → suffix t ≡ Whole
+    suffix_unnumbered f = told ∙ rw (unread (take (e - 1) (drop 1 t)) f)
+
+    pub suffix_piece : (p || l) ≡ true → (k : ℕ) → Some k ≡ read_numeral (take (e - 1) (drop 1 t)) → suffix t ≡ Piece k l
+    suffix_piece f k g =
+        let r = was_read (take (e - 1) (drop 1 t)) k g in
+        told ∙ rw (r.0, f, r.1)
 
 module _ (s : List ℕ) (p : ℕ) (here : p ≡ after_last slash s) where
   pub last_segment_le : p ≤ length s
   last_segment_le = omega (arith, last_le slash s)
 
-  pub item_none : p ≡ 0 → item_name s ≡ Refused 4
+  pub item_none : p ≡ 0 → item_name s ≡ Refused NotAPartName
   unfolding item_name
   item_none z = rw (← here, z)
 
@@ -67,7 +76,7 @@ module _ (s : List ℕ) (p : ℕ) (here : p ≡ after_last slash s) where
       unfolding item_name
       piece = rw (← here, ne_eqb p 0 z, ← take_rest s p, ← first, eq-eqb x open_bracket b, ← here, ← take_rest s p, ← e)
 
-      pub item_no_suffix : u ≡ Whole → item_name s ≡ Refused 6
+      pub item_no_suffix : u ≡ Whole → item_name s ≡ Refused BadSuffix
       item_no_suffix q = piece ∙ rw q
 
       pub item_piece : (j : Bool) (k : ℕ) (l : Bool) → u ≡ Piece k l → j ≡ part_name (take (p - 1) s) → item_name s ≡ named j (p - 1) (Piece k l)
@@ -92,3 +101,8 @@ item_plain s e = go (eqb (after_last slash s) 0) refl
     go false z =
         let f : but open_bracket x ≡ true = every_get_or (but open_bracket) refl (take (length s - p) (drop p s)) 0 (every_take (but open_bracket) (length s - p) (drop p s) (every_drop (but open_bracket) p s e)) in
         item_whole s p refl (eqb-false p 0 z) x refl (part_name s) (λ h. false≢true (sym (ap not (eq-eqb x open_bracket h)) ∙ f)) refl
+
+-- a name that is refused has a refusal
+pub told_some : (o : Option Refusal) (n : ℕ) → refusal_number o ≡ n → (n ≡ 0 → ⊥) → IsSome o
+told_some None n e z = absurd (z (sym e))
+told_some (Some r) n e z = refl

@@ -18,6 +18,7 @@ use Rattle.chars.proofs.Searches.{drop_next, first_le, index_append, every_appen
 use Rattle.chars.proofs.FirstBytes.{at_index, first_append, first_not_append, every_before}
 use Rattle.chars.proofs.UnitBytes.{but, class_but}
 use Rattle.names.specs.Types.{token, token_pair}
+use Rattle.std.specs.Prelude.{Some}
 use Rattle.names.specs.Reading.{Parts, stretch, pair_length}
 
 pub token_some : (s : List ℕ) → token s ≡ true → 0 < length s
@@ -120,12 +121,12 @@ module _ (b : ℕ) (h : Parts b) where
         some_left : length x + 1 + length y < length (x ++ b ∷ (y ++ z)) → 0 < length z
         some_left l = omega (arith, length-append x (b ∷ (y ++ z)), length-append y z)
 
-    pub length_of : pair_length b (x ++ b ∷ (y ++ z)) ≡ length x + 1 + length y
+    pub length_of : pair_length b (x ++ b ∷ (y ++ z)) ≡ Some (length x + 1 + length y)
     unfolding pair_length
     length_of =
         let a : x ++ b ∷ (y ++ z) ≡ (x ++ b ∷ y) ++ z = sym (append_assoc x (b ∷ y) z) in
         let n : length (x ++ b ∷ y) ≡ length x + 1 + length y = length-append x (b ∷ y) ∙ omega arith in
-        rw (a, stretch_ends, take-append_seam (x ++ b ∷ y) z, pair_of x y e f) n
+        rw (a, stretch_ends, take-append_seam (x ++ b ∷ y) z, pair_of x y e f, n)
 
   -- the first stretch of u is such a pair: how u is read
   pub pair_read : (u : List ℕ) → token_pair b (stretch u) ≡ true → PairRead b u
@@ -140,7 +141,7 @@ module _ (b : ℕ) (h : Parts b) where
       subst (PairRead b) is (read_of x y z (first_of_lem b w e) (second_of b w e) g)
 
   -- and what is read so begins with such a pair
-  pub pair_made : (u : List ℕ) → PairRead b u → pair_length b u ≡ second_end u
+  pub pair_made : (u : List ℕ) → PairRead b u → pair_length b u ≡ Some (second_end u)
   pair_made u r =
       let k = first_end u in
       let v = drop (k + 1) u in

@@ -29,14 +29,12 @@ pub(crate) fn past_members(t: &[u8; 256], a: Alphabet, s: &[u8], from: usize) ->
     requires { t.now ≡ classes }
     ensures { result ≡ from + first_not (member a) (drop from s.now) }
 {
-    let mut i = from;
-    while i < s.len() {
+    for i in from..s.len() {
         if !is_member(t, a, s[i]) {
             return i;
         }
-        i += 1;
     }
-    i
+    from.max(s.len())
 }
 
 pub(crate) fn all_members(t: &[u8; 256], a: Alphabet, s: &[u8]) -> bool
@@ -50,14 +48,12 @@ pub(crate) fn first_by(t: &[u8; 256], a: Alphabet, s: &[u8]) -> usize
     requires { t.now ≡ classes }
     ensures { result ≡ first_passing (member a) s.now }
 {
-    let mut i = 0;
-    while i < s.len() {
+    for i in 0..s.len() {
         if is_member(t, a, s[i]) {
             return i;
         }
-        i += 1;
     }
-    i
+    s.len()
 }
 
 // The index of the first byte of the set, or the length.

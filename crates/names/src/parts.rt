@@ -114,7 +114,7 @@ fn past_dot(s: &[u8]) -> usize
     find_past(s, b'.')
 }
 
-// Where a name's extension starts, 0 if it has none.
+// Where a name's extension starts, 0 if it has none: the C interface hands this number on.
 pub fn extension_at(s: &[u8]) -> usize
     ensures { result ≡ extension_at s.now }
 {

@@ -3,8 +3,6 @@ ghost use Rattle.std.specs.Prelude.{◌≡◌, true, ◌+◌, ◌-◌, ◌≤◌
 ghost use Rattle.chars.specs.Lists.{every};
 ghost use Rattle.names.specs.PlainBytes.{plain};
 
-use base::numbers::smaller;
-
 // No part name has more bytes.
 const MOST: usize = 255;
 
@@ -17,32 +15,30 @@ fn is_plain(b: u8) -> bool
         | (b == b'_')
 }
 
+// No byte is tested by itself: `all` takes twice as long at 24 bytes.
 fn is_plain_eight(s: &[u8], i: usize) -> bool
     requires { i + 8 ≤ length s.now }
     ensures { result ≡ every plain (take 8 (drop i s.now)) }
 {
-    is_plain(s[i])
-        & is_plain(s[i + 1])
-        & is_plain(s[i + 2])
-        & is_plain(s[i + 3])
-        & is_plain(s[i + 4])
-        & is_plain(s[i + 5])
-        & is_plain(s[i + 6])
-        & is_plain(s[i + 7])
+    let mut plain = true;
+    for k in 0..8 {
+        plain &= is_plain(s[i + k]);
+    }
+    plain
 }
 
 // So many bytes at the beginning of s are plain, perhaps more. The last eight may reach back; fewer are not looked at.
 pub(crate) fn plain_start(s: &[u8]) -> usize
     ensures { every plain (take result s.now) ≡ true }
 {
-    let n = smaller(s.len(), MOST);
+    let n = s.len().min(MOST);
     if n < 8 {
         return 0;
     }
     let last = n - 8;
     let mut i = 0;
     while i < n {
-        let at = smaller(i, last);
+        let at = i.min(last);
         if is_plain_eight(s, at) {
             i = at + 8;
         } else {
@@ -56,8 +52,5 @@ pub(crate) fn plain_start(s: &[u8]) -> usize
 pub(crate) fn plain_from(plain: usize, i: usize) -> usize
     ensures { result ≡ plain - i }
 {
-    if plain < i {
-        return 0;
-    }
-    plain - i
+    plain.saturating_sub(i)
 }

@@ -4,7 +4,8 @@ ghost use Rattle.chars.specs.Bytes.{letter, digit, hex_digit};
 ghost use Rattle.chars.specs.Classes.{classes, Classed};
 ghost use Rattle.names.specs.PlainBytes.{Laid};
 
-// The numbers of the classes that are asked for. 8 are ( ) , ; = @, 13 is %, 15 other ASCII, 20 none of all these.
+// The numbers of the classes that are asked for. 8 are ( ) , ; = @, 13 is %, 15 other ASCII, 20 none of all these. No enum: "256 class numbers .. in one
+// constant table" are wanted, and the sets of bytes are ranges of them (`Classed` in crates/chars/specs/Classes.antt).
 pub(crate) const DIGIT: u8 = 0;
 
 // A-F a-f.

@@ -1,5 +1,6 @@
 // Media types, extensions, relationship ids.
 ghost use Rattle.std.specs.Prelude.{◌≡◌, ◌+◌, drop};
+ghost use Rattle.std.specs.Option.{option_map};
 ghost use Rattle.chars.specs.Bytes.{semicolon};
 ghost use Rattle.chars.specs.Classes.{classes};
 ghost use Rattle.chars.specs.Lists.{split};
@@ -13,21 +14,21 @@ use base::bytes::byte_at;
 use chars::search::{Alphabet, has_no};
 use chars::units::Grammar;
 
-// A token, the byte b and a token, from index `from` up to a semicolon or the end: where they end, or `from` if they don't stand there.
-fn pair_end(t: &[u8; 256], s: &[u8], from: usize, b: u8) -> usize
+// A token, the byte b and a token, from index `from` up to a semicolon or the end: where they end.
+fn pair_end(t: &[u8; 256], s: &[u8], from: usize, b: u8) -> Option<usize>
     requires { (t.now ≡ classes) × Parts b }
-    ensures { result ≡ from + pair_length b (drop from s.now) }
+    ensures { result ≡ option_map (λ n. from + n) (pair_length b (drop from s.now)) }
 {
     let i = past_members(t, Alphabet::Token, s, from);
     if (i == from) | (byte_at(s, i) != b) {
-        return from;
+        return None;
     }
     let j = i + 1;
     let e = past_members(t, Alphabet::Token, s, j);
     if (e == j) | ((e < s.len()) & (byte_at(s, e) != b';')) {
-        return from;
+        return None;
     }
-    e
+    Some(e)
 }
 
 // The stretches between semicolons: a slash parts the first, `=` each other.
@@ -39,10 +40,9 @@ fn is_type_and_parameters(t: &[u8; 256], s: &[u8]) -> bool
     let mut i = 0;
     let mut b = b'/';
     loop {
-        let e = pair_end(t, s, i, b);
-        if e == i {
+        let Some(e) = pair_end(t, s, i, b) else {
             return false;
-        }
+        };
         if e == n {
             return true;
         }

@@ -131,7 +131,7 @@ fn long_unit(t: &[u8; 256], g: Grammar, a: u8, b: u8, c: u8, d: u8) -> usize
     0
 }
 
-// The length of the unit at the start, 0 for none.
+// The length of the unit at the start, 0 for none, as `unit` says in crates/chars/specs/Characters.antt: `tiled` counts by that number.
 pub(crate) fn unit_len(t: &[u8; 256], g: Grammar, s: &[u8]) -> usize
     requires { t.now ≡ classes }
     ensures { result ≡ unit g s.now }

@@ -1,6 +1,6 @@
 -- The answers of a call that writes.
 -- Assumes nothing.
-use Prim.Native.Nat.{ℕ, zero, suc, ◌-◌, ◌<◌, ◌≤◌}
+use Prim.Native.Nat.{ℕ, ◌-◌, ◌<◌, ◌≤◌}
 use mathlib.Core.Path.{◌≡◌, ap, sym, ◌∙◌, refl}
 use mathlib.Core.Bool.{Bool, false, true}
 use mathlib.Core.List.{List, [], ◌++◌, ◌∷◌}
@@ -9,27 +9,70 @@ use native.Mathlib.Omega.{arith}
 use lib.Dec.{leb, eqb}
 use lib.ListN.{length, drop, replicate}
 use borrow.Author.Tests.{lt-leb, le-leb, leb-true, ne_eqb}
-use Rattle.output.specs.Answers.{Outcome, Refused, Text, unless, Answer, answer, choose, unanswered, refusing, of_written, filled, written}
+use Rattle.output.specs.Answers.{Outcome, Refused, Text, unless, Answer, answer, choose, of_written, filled, written}
+use Rattle.output.specs.Refusals.{number, number_of}
+use Rattle.output.specs.declared.refusals.Refusal.{Refusal}
+use Rattle.output.specs.declared.refusals.Refusal.TheVariants as refusal
+use Rattle.output.specs.declared.refusals.Unwritten.TheVariants as unwritten
+use Rattle.std.specs.Prelude.{Result, Ok, Err, IsErrAnd, is_err}
+use Rattle.std.proofs.lemmas.Result.{err_from_is_err_and}
+use Rattle.output.specs.declared.refusals.Unwritten.{Unwritten}
 use Rattle.output.specs.Sends.{Sent, Fitted}
-use Rattle.output.specs.declared.writing.Written.TheVariants as told
 use Rattle.output.proofs.Sending.{append_none, fitted_none, fitted_sent}
 
--- a refusal is the answer that it says where its number is not 0, and where it is an answer at all
-pub refusing_is : (k : ℕ) → (k ≡ 0 → ⊥) → (a : Answer) → refusing k a ≡ a
-refusing_is zero z a = absurd (z refl)
-refusing_is (suc k) z a = refl
-
-pub refusing_answered : (k : ℕ) (a : Answer) → (refusing k a ≡ unanswered → ⊥) → refusing k a ≡ a
-refusing_answered zero a z = absurd (z refl)
-refusing_answered (suc k) a z = refl
+-- no refusal has the number 0, which says that nothing is refused
+pub number_some : (r : Refusal) → number r ≡ 0 → ⊥
+number_some refusal.NotAPackage e = omega arith
+number_some refusal.BadStart e = omega arith
+number_some refusal.OutputTooShort e = omega arith
+number_some refusal.NotAPartName e = omega arith
+number_some refusal.Reserved e = omega arith
+number_some refusal.BadSuffix e = omega arith
+number_some refusal.BadType e = omega arith
+number_some refusal.BadRelationshipField e = omega arith
+number_some refusal.BadTarget e = omega arith
+number_some refusal.Taken e = omega arith
+number_some refusal.Derivable e = omega arith
+number_some refusal.PiecesDisagree e = omega arith
+number_some refusal.NotHeld e = omega arith
+number_some refusal.NoMediaType e = omega arith
+number_some refusal.Full e = omega arith
+number_some refusal.UnreadableLine e = omega arith
+number_some refusal.BadPieceCount e = omega arith
+number_some refusal.WrongForm e = omega arith
+number_some refusal.MalformedStream e = omega arith
+number_some refusal.TooDeep e = omega arith
 
 pub unless_refused : (k : ℕ) (o : Outcome) → (k ≡ 0 → ⊥) → unless k o ≡ Refused k
 unless_refused k o z = rw (ne_eqb k 0 z)
 
-pub answer_refused : (o : Outcome) (k : ℕ) (out : List ℕ) → (k ≡ 0 → ⊥) → o ≡ Refused k
-    → of_written (told.Refused k) out ≡ written o out
+-- a refusal, of an outcome that is refused by its number
+pub answer_refused : (o : Outcome) (r : Refusal) (out : List ℕ) → o ≡ Refused (number r)
+    → of_written (Err (unwritten.Refused r)) out ≡ written o out
 unfolding filled
-answer_refused o k out z e = refusing_is k z (answer k (0 ∷ []) out) ∙ rw e
+answer_refused o r out e = rw e
+
+-- a judgement that is an error has a number, and one that is none has not
+pub err_some : {A : Type 0} → (w : Result A Refusal) → is_err w ≡ true → number_of w ≡ 0 → ⊥
+err_some (Ok x) e z = cc e
+err_some (Err r) e z = number_some r z
+
+pub err_none : {A : Type 0} → (w : Result A Refusal) → is_err w ≡ false → number_of w ≡ 0
+err_none (Ok x) e = refl
+err_none (Err r) e = absurd (cc e)
+
+-- what `?` passes on of a refusal
+pub refused_on : {A : Type 0} → (r : Refusal) (w : Result A Refusal) → IsErrAnd w (λ e. e ≡ r) → w ≡ Err r
+refused_on r w e = let p = err_from_is_err_and w e in rw (p.1, p.2)
+
+-- the same, in a call that writes
+pub passed_on : {A : Type 0} → (r : Refusal) (w : Result A Unwritten) → IsErrAnd w (λ u. u ≡ unwritten.Refused r)
+    → w ≡ Err (unwritten.Refused r)
+passed_on r w e = let p = err_from_is_err_and w e in rw (p.1, p.2)
+
+pub answer_passed_on : (o : Outcome) (r : Refusal) (out : List ℕ) (w : Result ℕ Unwritten)
+    → IsErrAnd w (λ u. u ≡ unwritten.Refused r) → o ≡ Refused (number r) → of_written w out ≡ written o out
+answer_passed_on o r out w p e = rw (passed_on r w p) (answer_refused o r out e)
 
 -- a text that is too long, or written
 module _ (count : ℕ) (o : Outcome) (t vs out out' : List ℕ) (n : ℕ) (e : o ≡ Text t vs) (f : n ≡ length t) where
@@ -59,11 +102,11 @@ module _ (o : Outcome) (t w ys out : List ℕ) (n : ℕ) (e : o ≡ Text t []) (
   kept : ys ++ out ≡ out
   kept = append_none ys out z
 
-  pub dry_short : length (ys ++ out) < n → of_written (told.Short n) (ys ++ out) ≡ written o out
+  pub dry_short : length (ys ++ out) < n → of_written (Err (unwritten.TooShort n)) (ys ++ out) ≡ written o out
   dry_short l = fitted_short 1 o t [] out (ys ++ out) n e (fitted_none t w ys out n s z l) (rw kept) l
 
   pub dry_bytes : (m : ℕ) (out' : List ℕ) → n ≤ length (ys ++ out) → Sent (ys ++ out) 0 t m out'
-      → of_written (told.Bytes m) out' ≡ written o out
+      → of_written (Ok m) out' ≡ written o out
   dry_bytes m out' l r =
       let d = fitted_sent t w ys out n s z m out' l r in
       let l' : n ≤ length out = rw kept at l in

@@ -1,8 +1,10 @@
 -- What a call that writes answers, and what its output then holds.
 -- Assumes nothing.
-use Rattle.std.specs.Prelude.{ℕ, zero, suc, ◌-◌, Bool, true, false, cond, List, [], ◌∷◌, ◌++◌, leb, eqb, length, drop, replicate}
-use Rattle.output.specs.declared.writing.Written.{Written}
-use Rattle.output.specs.declared.writing.Written.TheVariants as told
+use Rattle.std.specs.Prelude.{ℕ, ◌-◌, Bool, true, false, cond, List, [], ◌∷◌, ◌++◌, leb, eqb, length, drop, replicate, Result, Ok, Err}
+use Rattle.output.specs.declared.refusals.Refusal.{Refusal}
+use Rattle.output.specs.declared.refusals.Unwritten.{Unwritten}
+use Rattle.output.specs.declared.refusals.Unwritten.TheVariants as unwritten
+use Rattle.output.specs.Refusals.{number}
 
 -- what a call comes to: what it writes, and its values besides the length; or the number of its refusal
 pub data Outcome : Type 0 where
@@ -31,21 +33,19 @@ abbrev pub choose : Bool → Answer → Answer → Answer
 choose true a b = a
 choose false a b = b
 
--- what no call answers, whatever it is asked: the number is none of documents 01 and 02, and there are no values
-abbrev pub unanswered : Answer
-unanswered = answer 256 [] []
+-- "A refusal answers its number and 0 for every value": count is how many values the call answers
+abbrev pub refusing : ℕ → Refusal → List ℕ → Answer
+refusing count r out = answer (number r) (replicate count 0) out
 
--- the answer a of a refusal by the number k. 0 refuses nothing, so a case that says so is never right
-abbrev pub refusing : ℕ → Answer → Answer
-refusing zero a = unanswered
-refusing (suc k) a = a
+-- "(3: the length as the first)", of a call that writes
+abbrev pub failing : ℕ → Unwritten → List ℕ → Answer
+failing count (unwritten.TooShort n) out = answer 3 (n ∷ replicate (count - 1) 0) out
+failing count (unwritten.Refused r) out = refusing count r out
 
--- document 01's number and value for each case of `Written`. (A refusal by 3 is none either: a text that
--- doesn't fit has a length above 0.)
-abbrev pub of_written : Written → List ℕ → Answer
-of_written (told.Bytes n) out = answer 0 (n ∷ []) out
-of_written (told.Short n) out = answer 3 (n ∷ []) out
-of_written (told.Refused k) out = refusing k (answer k (0 ∷ []) out)
+-- document 01's number and value for each answer of a call that writes one text: its length
+abbrev pub of_written : Result ℕ Unwritten → List ℕ → Answer
+of_written (Ok n) out = answer 0 (n ∷ []) out
+of_written (Err u) out = failing 1 u out
 
 -- "where it writes bytes, their number is the value"; "Output past the written bytes is kept"; "3 output too short (carries the length
 -- needed)"; "A refusal answers its number and 0 for every value (3: the length as the first); .. outputs stay unchanged". count is how many

@@ -3,15 +3,8 @@ ghost use Rattle.std.specs.Prelude.{◌≡◌, [], ◌^◌, ◌≤◌, length};
 ghost use Rattle.output.specs.Answers.{Text, of_written, written};
 ghost use Rattle.output.specs.Sends.{Sent};
 
+use crate::refusals::Unwritten;
 use base::moves::copy_in;
-
-// What a call that writes one text answers.
-#[derive(Drop)]
-pub enum Written {
-    Bytes(usize),
-    Short(usize),
-    Refused(u8),
-}
 
 // Sends bytes to place at of out: writes them where all fit, and says the next place in any case.
 pub fn emit(out: &mut [u8], at: usize, bytes: &[u8]) -> usize
@@ -26,13 +19,13 @@ pub fn emit(out: &mut [u8], at: usize, bytes: &[u8]) -> usize
     next
 }
 
-// A whole text, as the answer of a call.
-pub fn put_text(text: &[u8], out: &mut [u8]) -> Written
+// A whole text, as the answer of a call: how many bytes it has.
+pub fn put_text(text: &[u8], out: &mut [u8]) -> Result<usize, Unwritten>
     ensures { of_written result out.new ≡ written (Text text.now []) out.old }
 {
     if out.len() < text.len() {
-        return Written::Short(text.len());
+        return Err(Unwritten::TooShort(text.len()));
     }
     copy_in(out, 0, text);
-    Written::Bytes(text.len())
+    Ok(text.len())
 }

@@ -6,19 +6,20 @@ use mathlib.Core.Bool.{Bool, ◌&&◌, false, cond, true}
 use mathlib.Core.List.{List, [], ◌∷◌, map, ◌++◌, append_assoc, append-nil}
 use native.Mathlib.Numerals.{add-one}
 use native.Mathlib.Omega.{arith}
-use lib.Dec.{eqb, ltb}
+use lib.Dec.{eqb}
 use lib.ListN.{drop, get_or, get_or-map, length, length-map, take, set, drop_of_length-le}
 use lib.Seq.{get_or-drop, drop-cons, drop-drop, take-suc-set}
 use borrow.Author.Tests.{lt-ltb, le-ltb}
 use Rattle.chars.specs.Bytes.{hex_digit, percent, hex_value}
 use Rattle.chars.specs.Characters.{stands}
+use Rattle.std.specs.Prelude.{Some, None}
 use Rattle.base.proofs.Bools.{and_right, and_left}
 use Rattle.pack.specs.Pack.{low_triplet, character, decoded, slashed, package_of}
 use Rattle.pack.specs.Scratch.{Decoded}
 
 -- one triplet: u and v say whether its digits are digits
 module _ (a b c : ℕ) (u v : Bool) (eu : u ≡ hex_digit b) (ev : v ≡ hex_digit c) where
-  pub low_none : (eqb a percent && u && v) ≡ false → 128 ≡ cond (low_triplet a b c) (stands b c) 128
+  pub low_none : (eqb a percent && u && v) ≡ false → None ≡ cond (low_triplet a b c) (Some (stands b c)) None
   unfolding low_triplet
   low_none q = rw (← eu, ← ev, q)
 
@@ -33,30 +34,25 @@ module _ (a b c : ℕ) (u v : Bool) (eu : u ≡ hex_digit b) (ev : v ≡ hex_dig
       is_stands : 16 * h + k ≡ stands b c
       is_stands = rw (f, g)
 
-      pub low_is : 16 * h + k < 128 → 16 * h + k ≡ cond (low_triplet a b c) (stands b c) 128
+      pub low_is : 16 * h + k < 128 → Some (16 * h + k) ≡ cond (low_triplet a b c) (Some (stands b c)) None
       unfolding low_triplet
-      low_is l = is_stands ∙ rw (← eu, ← ev, q, lt-ltb (stands b c) 128 (omega (arith, is_stands, l)))
+      low_is l = ap (λ (n : ℕ). Some n) is_stands ∙ rw (← eu, ← ev, q, lt-ltb (stands b c) 128 (omega (arith, is_stands, l)))
 
-      pub low_high : 128 ≤ 16 * h + k → 128 ≡ cond (low_triplet a b c) (stands b c) 128
+      pub low_high : 128 ≤ 16 * h + k → None ≡ cond (low_triplet a b c) (Some (stands b c)) None
       unfolding low_triplet
       low_high l = rw (← eu, ← ev, q, le-ltb (stands b c) 128 (omega (arith, is_stands, l)))
 
--- v tells a triplet by a number below 128
-low_test : (a b c v : ℕ) → v ≡ cond (low_triplet a b c) (stands b c) 128 → ltb v 128 ≡ low_triplet a b c
-unfolding low_triplet
-low_test a b c v e = ap (λ (z : ℕ). ltb z 128) e ∙ go (eqb a percent && hex_digit b && hex_digit c) (ltb (stands b c) 128) refl
-  where
-    go : (p q : Bool) → ltb (stands b c) 128 ≡ q → ltb (cond (p && q) (stands b c) 128) 128 ≡ (p && q)
-    go true true f = f
-    go true false f = refl
-    go false q f = refl
+-- the byte that is written, and how many it stands in place of, where a triplet stands for it and where none does
+abbrev pub Replaced : Bool → ℕ → ℕ → ℕ → ℕ → ℕ → Type 0
+Replaced low a b c w n = (w ≡ character low a b c) × (n ≡ cond low 3 1)
 
-low_value : (a b c v : ℕ) → v ≡ cond (low_triplet a b c) (stands b c) 128 → cond (ltb v 128) v a ≡ character (low_triplet a b c) a b c
-low_value a b c v e = rw (low_test a b c v e, e) (go (low_triplet a b c))
-  where
-    go : (p : Bool) → cond p (cond p (stands b c) 128) a ≡ cond p (stands b c) a
-    go true = refl
-    go false = refl
+pub replaced_low : (low : Bool) (a b c v : ℕ) → Some v ≡ cond low (Some (stands b c)) None → Replaced low a b c v 3
+replaced_low true a b c v e = (cc e, refl)
+replaced_low false a b c v e = absurd (cc e)
+
+pub replaced_none : (low : Bool) (a b c : ℕ) → None ≡ cond low (Some (stands b c)) None → Replaced low a b c a 1
+replaced_none true a b c e = absurd (cc e)
+replaced_none false a b c e = (refl, refl)
 
 decoded_skip : (k : ℕ) (t : List ℕ) → decoded k t ≡ decoded 0 (drop k t)
 unfolding decoded
@@ -93,12 +89,10 @@ module _ (s : List ℕ) (i a b c x y z : ℕ) (h : i < length s) (ex : x ≡ get
       go true = ap (λ (l : List ℕ). stands b c ∷ l) (decoded_skip 2 (drop (suc i) m) ∙ ap (decoded 0) (drop-drop 2 (suc i) m ∙ ap (λ (j : ℕ). drop j m) (let e : suc i + 2 ≡ i + 3 = omega arith in e)))
       go false = ap (λ (l : List ℕ). a ∷ decoded 0 l) (ap (λ (j : ℕ). drop j m) (let e : suc i ≡ i + 1 = omega arith in e))
 
-  pub decode_turn : (out : List ℕ) (o v w n : ℕ) → o < length out → v ≡ cond (low_triplet a b c) (stands b c) 128 → w ≡ cond (ltb v 128) v a → n ≡ cond (ltb v 128) 3 1
+  pub decode_turn : (out : List ℕ) (o w n : ℕ) → o < length out → Replaced (low_triplet a b c) a b c w n
       → package_of s ≡ take o out ++ decoded 0 (drop i (map slashed s)) → package_of s ≡ take (o + 1) (set out o w) ++ decoded 0 (drop (i + n) (map slashed s))
-  decode_turn out o v w n l ev ew en e =
-      let fw : character (low_triplet a b c) a b c ≡ w = sym (ew ∙ low_value a b c v ev) in
-      let fn : cond (low_triplet a b c) 3 1 ≡ n = sym (en ∙ ap (λ (q : Bool). cond {A = ℕ} q 3 1) (low_test a b c v ev)) in
-      e ∙ ap (λ (t : List ℕ). take o out ++ t) (decode_step ∙ ap (λ (x : ℕ). x ∷ decoded 0 (drop (i + cond (low_triplet a b c) 3 1) m)) fw ∙ ap (λ (x : ℕ). w ∷ decoded 0 (drop (i + x) m)) fn)
+  decode_turn out o w n l r e =
+      e ∙ ap (λ (t : List ℕ). take o out ++ t) (decode_step ∙ ap (λ (x : ℕ). x ∷ decoded 0 (drop (i + cond (low_triplet a b c) 3 1) m)) (sym r.0) ∙ ap (λ (x : ℕ). w ∷ decoded 0 (drop (i + x) m)) (sym r.1))
       ∙ sym (append_assoc (take o out) (w ∷ []) (decoded 0 (drop (i + n) m)))
       ∙ ap (λ (t : List ℕ). t ++ decoded 0 (drop (i + n) m)) (sym (ap (λ (k : ℕ). take k (set out o w)) (add-one o) ∙ take-suc-set out o w l))
 
@@ -111,7 +105,3 @@ unfolding decoded
 decode_end s out i o h g e =
     let l : length (map slashed s) ≤ i = rw (length-map s slashed) h in
     record { text = sym (e ∙ ap (λ (t : List ℕ). take o out ++ decoded 0 t) (drop_of_length-le (map slashed s) l) ∙ append-nil (take o out)); few = g }
-
-pub one_or_three : (q : Bool) → (1 ≤ cond q 3 1) × (cond q 3 1 ≤ 3)
-one_or_three true = (omega arith, omega arith)
-one_or_three false = (omega arith, omega arith)

@@ -57,10 +57,7 @@ first_escaped (b ∷ t) n h = by_value (λ (x : ℕ). cond (eqb x number_sign) 0
     (λ d e. rw (append_assoc (escape b) (escaped t) n, first_escape b (escaped t ++ n) d, length-append (escape b) (escaped t))
     (omega (arith, first_escaped t n (let g : suc (index_of number_sign t) ≡ suc (length t) = rw (ne_eqb b number_sign d) at e in omega arith)))) h
 
--- a byte that is replaced, and one that is not
-pub escape_at : (b k : ℕ) → b ≡ k → escape b ≡ escape k
-escape_at b k e = ap escape e
-
+-- a byte that is not replaced
 pub escape_same : (b : ℕ) → (b ≡ percent → ⊥) → (b ≡ question → ⊥) → (b ≡ at_sign → ⊥) → (b ≡ colon → ⊥) → (b ≡ comma → ⊥) → (b ≡ slash → ⊥) → escape b ≡ b ∷ []
 unfolding escape
 escape_same b a c d e f g = rw (ne_eqb b percent a, ne_eqb b question c, ne_eqb b at_sign d, ne_eqb b colon e, ne_eqb b comma f, ne_eqb b slash g)

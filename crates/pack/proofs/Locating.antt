@@ -3,7 +3,7 @@
 use Prim.Native.Nat.{ℕ, ◌-◌, ◌<◌, ◌≤◌, ◌+◌}
 use mathlib.Core.Path.{◌≡◌, ◌∙◌, ap, sym, refl}
 use mathlib.Core.Bool.{Bool, ◌&&◌, not, ◌||◌, true, false}
-use mathlib.Core.List.{List, [], ◌∷◌, ◌++◌}
+use mathlib.Core.List.{List, ◌++◌}
 use native.Mathlib.Omega.{arith}
 use lib.Dec.{eqb, leb}
 use lib.ListN.{take, length, drop, length-drop, length-append}
@@ -16,13 +16,13 @@ use Rattle.base.proofs.Lists.{take_rest, drop_take}
 use Rattle.iri.specs.Components.{authority_of, path_of, authority_length, after_scheme}
 use Rattle.iri.specs.Scratch.{SplitAt}
 use Rattle.pack.specs.Scratch.{AuthorityAt, PlacedAs}
-use Rattle.output.specs.Answers.{answer}
+use Rattle.output.specs.Refusals.{number}
+use Rattle.output.specs.declared.refusals.Refusal.{Refusal}
+use Rattle.output.specs.declared.refusals.Unwritten.TheVariants as unwritten
+use Rattle.std.specs.Prelude.{Option, None, Ok, Err}
 use Rattle.pack.specs.Pack.{pack_form, part_or_root, located, Not, resolve_pack, Location, of_resolved, Found}
 use Rattle.pack.specs.declared.pack.Place.{Place}
-use Rattle.output.proofs.Answering.{refusing_is}
 use Rattle.iri.proofs.Splitting.{authority_le, authority_length_lem, none_after, authority_two}
-use Rattle.pack.specs.declared.pack.Place.TheVariants as place
-use Rattle.pack.specs.declared.pack.Resolved.TheVariants as resolved
 use Rattle.names.proofs.Lengths.{name_few}
 use Rattle.names.specs.Names.{part_name}
 use Rattle.chars.proofs.Equivalence.{same_eq}
@@ -98,24 +98,21 @@ module _ (s : List ℕ) (a b p q : ℕ) (h : SplitAt s a b p q) (x : Bool) (ex :
             few = omega arith;
           }
 
--- the two cases of the place
-pub placed_none : (s : List ℕ) (p : Place) → p ≡ place.Nothing → PlacedAs s p → resolve_pack s ≡ Not 9
+-- no place
+pub placed_none : (s : List ℕ) (p : Option Place) → p ≡ None → PlacedAs s p → resolve_pack s ≡ Not 9
 unfolding resolve_pack
 placed_none s p e h = let f : pack_form s ≡ false = rw e at h in rw f
 
-pub placed_at : (s : List ℕ) (p : Place) (x y : ℕ) → p ≡ place.At x y → PlacedAs s p → AuthorityAt s x y
-placed_at s p x y e h = rw e at h
-
 -- what resolving answers
-pub located_refused : (t : Location) (k : ℕ) (out : List ℕ) → (k ≡ 0 → ⊥) → t ≡ Not k → of_resolved (resolved.Refused k) out ≡ located t out
-located_refused t k out z e = refusing_is k z (answer k (0 ∷ 0 ∷ []) out) ∙ rw e
+pub located_refused : (t : Location) (r : Refusal) (out : List ℕ) → t ≡ Not (number r) → of_resolved (Err (unwritten.Refused r)) out ≡ located t out
+located_refused t r out e = rw e
 
 module _ (t : Location) (p n out : List ℕ) (a b : ℕ) (e : t ≡ Found p n) (ea : a ≡ length p) (eb : b ≡ length n) where
   sum : length (p ++ n) ≡ a + b
   sum = length-append p n ∙ ap (λ (z : ℕ). z + length n) (sym ea) ∙ ap (λ (z : ℕ). a + z) (sym eb)
 
-  pub located_short : length out < a + b → of_resolved (resolved.Short (a + b)) out ≡ located t out
+  pub located_short : length out < a + b → of_resolved (Err (unwritten.TooShort (a + b))) out ≡ located t out
   located_short l = let g : leb (length (p ++ n)) (length out) ≡ false = lt-leb (length (p ++ n)) (length out) (omega (arith, sum)) in rw (e, g, sum)
 
-  pub located_found : (out' : List ℕ) → a + b ≤ length out → out' ≡ (p ++ n) ++ drop (length (p ++ n)) out → of_resolved (resolved.Found a b) out' ≡ located t out
+  pub located_found : (out' : List ℕ) → a + b ≤ length out → out' ≡ (p ++ n) ++ drop (length (p ++ n)) out → of_resolved (Ok (record { «package» = a; part = b })) out' ≡ located t out
   located_found out' l f = let g : leb (length (p ++ n)) (length out) ≡ true = le-leb (length (p ++ n)) (length out) (omega (arith, sum)) in rw (e, g, f, ea, eb)

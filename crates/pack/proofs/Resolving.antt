@@ -20,7 +20,8 @@ use Rattle.pack.specs.Scratch.{AuthorityAt, Decoded}
 use Rattle.output.specs.Sends.{Sent}
 use Rattle.pack.proofs.Locating.{part_or_root_few, located_short, located_found}
 use Rattle.output.proofs.Sending.{sent_more, sent_start}
-use Rattle.pack.specs.declared.pack.Resolved.TheVariants as resolved
+use Rattle.output.specs.declared.refusals.Unwritten.TheVariants as unwritten
+use Rattle.std.specs.Prelude.{Ok, Err}
 
 zero_take : (l : List ℕ) → take 0 l ≡ []
 zero_take [] = refl
@@ -74,7 +75,7 @@ module _ (s : List ℕ) (x y : ℕ) (h : AuthorityAt s x y) where
             go true = zero_take (drop y s)
             go false = take_all (length (drop y s)) (drop y s) (omega arith)
 
-        pub part_end_le : y + m ≤ length s
+        part_end_le : y + m ≤ length s
         part_end_le = omega (arith, h.inside, length-drop y s, m_is, small (same (drop y s) (ascii "/")))
           where
             small : (q : Bool) → length (cond q [] (drop y s)) ≤ length (drop y s)
@@ -84,11 +85,11 @@ module _ (s : List ℕ) (x y : ℕ) (h : AuthorityAt s x y) where
         pub part_end_few : m ≤ 255
         part_end_few = omega (arith, pack_path_few, length-drop y s, part_end_le)
 
-        pub pack_short : (out : List ℕ) → length out < k + m → of_resolved (resolved.Short (k + m)) out ≡ located (resolve_pack s) out
+        pub pack_short : (out : List ℕ) → length out < k + m → of_resolved (Err (unwritten.TooShort (k + m))) out ≡ located (resolve_pack s) out
         pack_short out l = located_short (resolve_pack s) (take k b) N out k m form_is package_end_length m_is l
 
         pub pack_found : (out o₁ o₂ : List ℕ) (i j : ℕ) → k + m ≤ length out → Sent out 0 (take k b) i o₁ → length o₁ ≡ length out → Sent o₁ i (take (y + m - y) (drop y s)) j o₂
-            → of_resolved (resolved.Found k m) o₂ ≡ located (resolve_pack s) out
+            → of_resolved (Ok (record { «package» = k; part = m })) o₂ ≡ located (resolve_pack s) out
         pack_found out o₁ o₂ i j l s₁ e s₂ =
             let w : Sent out 0 (take k b ++ N) j o₂ = sent_more out o₁ o₂ (take k b) N 0 i j s₁ e (rw part_is at s₂) in
             located_found (resolve_pack s) (take k b) N out k m form_is package_end_length m_is o₂ l (sent_start out o₂ (take k b ++ N) j w (omega (arith, length-append (take k b) N, package_end_length, m_is)))

@@ -1,6 +1,6 @@
 -- Pack IRIs: composing (ISO/IEC 29500-2, 6.3.4) and resolving.
 -- Assumes nothing.
-use Rattle.std.specs.Prelude.{ℕ, zero, suc, ◌≡◌, Bool, true, false, ◌&&◌, ◌||◌, cond, List, [], ◌∷◌, ◌++◌, map, leb, ltb, eqb, length, take, drop, get_or}
+use Rattle.std.specs.Prelude.{ℕ, zero, suc, ◌≡◌, Bool, true, false, ◌&&◌, ◌||◌, cond, List, [], ◌∷◌, ◌++◌, map, leb, ltb, eqb, length, take, drop, get_or, Result, Ok, Err}
 use Rattle.chars.specs.Bytes.{ascii, slash, percent, colon, number_sign, hex_digit}
 use Rattle.chars.specs.Lists.{is_empty, same, index_of, lacks}
 use Rattle.chars.specs.Characters.{stands}
@@ -10,9 +10,9 @@ use Rattle.names.specs.Iris.{package_iri}
 use Rattle.iri.specs.Components.{question, comma, at_sign, defined, scheme_of, authority_of, path_of, query_of, fragment_of}
 use Rattle.iri.specs.References.{resolve}
 use Rattle.targets.specs.Targets.{internal, resolve_path}
-use Rattle.output.specs.Answers.{Outcome, Text, provided, Answer, answer, refusing}
+use Rattle.output.specs.Answers.{Outcome, Text, provided, Answer, answer, failing}
 use Rattle.pack.specs.declared.pack.Resolved.{Resolved}
-use Rattle.pack.specs.declared.pack.Resolved.TheVariants as resolved
+use Rattle.output.specs.declared.refusals.Unwritten.{Unwritten}
 
 -- "drop the fragment"
 unfoldable pub unfragmented : List ℕ → List ℕ
@@ -110,11 +110,10 @@ TargetsResolve =
     (p source target : List ℕ) → package_iri p ≡ true → part_or_root source ≡ true → internal target ≡ true
     → resolve (pack_iri p source) target ≡ pack_iri p (resolve_path source target)
 
--- document 01's number and values for each case of `Resolved`
-abbrev pub of_resolved : Resolved → List ℕ → Answer
-of_resolved (resolved.Found a b) out = answer 0 (a ∷ b ∷ []) out
-of_resolved (resolved.Short n) out = answer 3 (n ∷ 0 ∷ []) out
-of_resolved (resolved.Refused k) out = refusing k (answer k (0 ∷ 0 ∷ []) out)
+-- document 01's number and values for each answer of the call `resolve_pack`
+abbrev pub of_resolved : Result Resolved Unwritten → List ℕ → Answer
+of_resolved (Ok r) out = answer 0 (r.package ∷ r.part ∷ []) out
+of_resolved (Err u) out = failing 2 u out
 
 -- "The output holds the package IRI, directly followed by the part name if there is one; both lengths are answered, and 3 carries their sum."
 abbrev pub located_where : Bool → List ℕ → List ℕ → List ℕ → Answer

@@ -1,10 +1,9 @@
 -- What the inner functions ensure of scratch that a caller lends, and where they say that a component stands.
 -- Assumes nothing.
-use Rattle.std.specs.Prelude.{ℕ, ◌-◌, ◌≤◌, ◌≡◌, true, false, List, length, take, drop}
+use Rattle.std.specs.Prelude.{ℕ, ◌-◌, ◌≤◌, ◌≡◌, true, false, List, length, take, drop, Option, Some, None}
 use Rattle.iri.specs.Components.{authority_of, path_of}
 use Rattle.pack.specs.Pack.{pack_form, package_of}
 use Rattle.pack.specs.declared.pack.Place.{Place}
-use Rattle.pack.specs.declared.pack.Place.TheVariants as place
 
 -- the first k bytes of the scratch are the package IRI of an authority
 pub record Decoded (s : List ℕ) (k : ℕ) (out' : List ℕ) : Type 0 where
@@ -20,6 +19,6 @@ pub record AuthorityAt (s : List ℕ) (x y : ℕ) : Type 0 where
   pub inside : y ≤ length s
   pub few : y - x ≤ 765
 
-abbrev pub PlacedAs : List ℕ → Place → Type 0
-PlacedAs s (place.At x y) = AuthorityAt s x y
-PlacedAs s place.Nothing = pack_form s ≡ false
+abbrev pub PlacedAs : List ℕ → Option Place → Type 0
+PlacedAs s (Some place) = AuthorityAt s place.from place.to
+PlacedAs s None = pack_form s ≡ false

@@ -1,5 +1,5 @@
 // Pack IRIs.
-ghost use Rattle.std.specs.Prelude.{◌≡◌, ◌++◌, ◌+◌, ◌≤◌, ◌||◌, cond, ltb, length};
+ghost use Rattle.std.specs.Prelude.{◌≡◌, ◌++◌, ◌+◌, ◌≤◌, ◌||◌, Some, None, cond, length};
 ghost use Rattle.chars.specs.Bytes.{ascii};
 ghost use Rattle.chars.specs.Classes.{classes};
 ghost use Rattle.chars.specs.Lists.{is_empty};
@@ -19,7 +19,8 @@ use iri::split::split;
 use names::iris::is_package_iri;
 use names::parts::is_part_name;
 use names::table::{is_hex_digit, table};
-use output::writing::{Written, emit};
+use output::refusals::{Refusal, Unwritten};
+use output::writing::emit;
 
 fn is_part_or_root(n: &[u8]) -> bool
     ensures { result ≡ part_or_root n.now }
@@ -31,25 +32,15 @@ fn put_escape(out: &mut [u8], at: usize, b: u8) -> usize
     requires { at ≤ 65536 }
     ensures { Sent out.old at (escape b) result out.new }
 {
-    if b == b'%' {
-        return emit(out, at, b"%25");
+    match b {
+        b'%' => emit(out, at, b"%25"),
+        b'?' => emit(out, at, b"%3F"),
+        b'@' => emit(out, at, b"%40"),
+        b':' => emit(out, at, b"%3A"),
+        b',' => emit(out, at, b"%2C"),
+        b'/' => emit(out, at, b","),
+        _ => emit(out, at, &[b]),
     }
-    if b == b'?' {
-        return emit(out, at, b"%3F");
-    }
-    if b == b'@' {
-        return emit(out, at, b"%40");
-    }
-    if b == b':' {
-        return emit(out, at, b"%3A");
-    }
-    if b == b',' {
-        return emit(out, at, b"%2C");
-    }
-    if b == b'/' {
-        return emit(out, at, b",");
-    }
-    emit(out, at, &[b])
 }
 
 fn put_escaped(s: &[u8], out: &mut [u8], from: usize) -> usize
@@ -57,10 +48,8 @@ fn put_escaped(s: &[u8], out: &mut [u8], from: usize) -> usize
     ensures { Sent out.old from (escaped s.now) result out.new }
 {
     let mut at = from;
-    let mut i = 0;
-    while i < s.len() {
-        at = put_escape(out, at, s[i]);
-        i += 1;
+    for &b in s {
+        at = put_escape(out, at, b);
     }
     at
 }
@@ -99,35 +88,34 @@ pub fn put_pack_iri(p: &[u8], path: &[u8], out: &mut [u8]) -> usize
 }
 
 // The pack IRI of a package IRI and a part name, or / for the package.
-pub fn compose(p: &[u8], n: &[u8], out: &mut [u8]) -> Written
+pub fn compose(p: &[u8], n: &[u8], out: &mut [u8]) -> Result<usize, Unwritten>
     ensures { of_written result out.new ≡ written (composed p.now n.now) out.old }
 {
     if !is_package_iri(p) {
-        return Written::Refused(9);
+        return Err(Unwritten::Refused(Refusal::BadTarget));
     }
     if !is_part_or_root(n) {
-        return Written::Refused(4);
+        return Err(Unwritten::Refused(Refusal::NotAPartName));
     }
     let need = put_pack_iri(p, n, out);
     if out.len() < need {
-        return Written::Short(need);
+        return Err(Unwritten::TooShort(need));
     }
-    Written::Bytes(need)
+    Ok(need)
 }
 
-// What resolving a pack IRI answers: the lengths of the package IRI and of the part name.
-#[derive(Drop)]
-pub enum Resolved {
-    Found(usize, usize),
-    Short(usize),
-    Refused(u8),
+// What a pack IRI stands for: the lengths of the package IRI and of the part name, which is none for the package itself.
+#[derive(Clone, Copy)]
+pub struct Resolved {
+    pub package: usize,
+    pub part: usize,
 }
 
 // Where the authority stands.
-#[derive(Drop)]
-enum Place {
-    At(usize, usize),
-    Nothing,
+#[derive(Clone, Copy)]
+struct Place {
+    from: usize,
+    to: usize,
 }
 
 fn slash(b: u8) -> u8
@@ -139,37 +127,18 @@ fn slash(b: u8) -> u8
     b
 }
 
-// What a triplet below %80 stands for; 128 where a b c is none.
-fn low_triplet(t: &[u8; 256], a: u8, b: u8, c: u8) -> u8
+// What a triplet below %80 stands for, if a b c is one.
+fn low_triplet(t: &[u8; 256], a: u8, b: u8, c: u8) -> Option<u8>
     requires { t.now ≡ classes }
-    ensures { result ≡ cond (low_triplet a b c) (stands b c) 128 }
+    ensures { result ≡ cond (low_triplet a b c) (Some (stands b c)) None }
 {
     if (a == b'%') & is_hex_digit(t, b) & is_hex_digit(t, c) {
         let v = 16 * hex_value(b) + hex_value(c);
         if v < 128 {
-            return v;
+            return Some(v);
         }
     }
-    128
-}
-
-// The byte that is written, and how many it stands in place of: v is the triplet's, a its first.
-fn decoded_byte(v: u8, a: u8) -> u8
-    ensures { result ≡ cond (ltb v 128) v a }
-{
-    if v < 128 {
-        return v;
-    }
-    a
-}
-
-fn encoded_len(v: u8) -> usize
-    ensures { result ≡ cond (ltb v 128) 3 1 }
-{
-    if v < 128 {
-        return 3;
-    }
-    1
+    None
 }
 
 fn decode_by(t: &[u8; 256], s: &[u8], out: &mut [u8]) -> usize
@@ -178,13 +147,17 @@ fn decode_by(t: &[u8; 256], s: &[u8], out: &mut [u8]) -> usize
 {
     let mut i = 0;
     let mut o = 0;
+    // a triplet takes three bytes at once, any other byte one: no step of an iterator
     while i < s.len() {
         let a = slash(byte_at(s, i));
         let b = slash(byte_at(s, i + 1));
         let c = slash(byte_at(s, i + 2));
-        let v = low_triplet(t, a, b, c);
-        out[o] = decoded_byte(v, a);
-        i += encoded_len(v);
+        let (v, k) = match low_triplet(t, a, b, c) {
+            Some(v) => (v, 3),
+            None => (a, 1),
+        };
+        out[o] = v;
+        i += k;
         o += 1;
     }
     o
@@ -209,7 +182,7 @@ fn is_pack(s: &[u8]) -> bool
 fn is_path(p: &[u8]) -> bool
     ensures { result ≡ (is_empty p.now || part_or_root p.now) }
 {
-    (p.len() == 0) | is_part_or_root(p)
+    p.is_empty() | is_part_or_root(p)
 }
 
 fn is_unfragmented(p: &[u8]) -> bool
@@ -218,7 +191,7 @@ fn is_unfragmented(p: &[u8]) -> bool
     is_package_iri(p) & has_no(p, b'#')
 }
 
-fn place_of(s: &[u8]) -> Place
+fn place_of(s: &[u8]) -> Option<Place>
     ensures { PlacedAs s.now result }
 {
     let x = split(s);
@@ -226,21 +199,21 @@ fn place_of(s: &[u8]) -> Place
     let b = x.authority;
     let p = x.path;
     if !is_pack(&s[..a]) {
-        return Place::Nothing;
+        return None;
     }
     if b == a {
-        return Place::Nothing;
+        return None;
     }
     if 767 < b - a {
-        return Place::Nothing;
+        return None;
     }
     if p != s.len() {
-        return Place::Nothing;
+        return None;
     }
     if !is_path(&s[b..]) {
-        return Place::Nothing;
+        return None;
     }
-    Place::At(a + 2, b)
+    Some(Place { from: a + 2, to: b })
 }
 
 // The length of the part name of a path.
@@ -253,34 +226,36 @@ fn part_len(p: &[u8]) -> usize
     p.len()
 }
 
-// The authority stands from x to y, the path from y on.
-fn resolve_at(s: &[u8], x: usize, y: usize, out: &mut [u8]) -> Resolved
-    requires { AuthorityAt s.now x y }
+// The path stands after the authority.
+fn resolve_at(s: &[u8], place: Place, out: &mut [u8]) -> Result<Resolved, Unwritten>
+    requires { AuthorityAt s.now place.from place.to }
     ensures { of_resolved result out.new ≡ located (resolve_pack s.now) out.old }
 {
     let mut package = [0; 765];
-    let k = decode(&s[x..y], &mut package);
+    let k = decode(&s[place.from..place.to], &mut package);
     if !is_unfragmented(&package[..k]) {
-        return Resolved::Refused(9);
+        return Err(Unwritten::Refused(Refusal::BadTarget));
     }
-    let m = part_len(&s[y..]);
-    let e = y + m;
+    let m = part_len(&s[place.to..]);
+    let e = place.to + m;
     let need = k + m;
     if out.len() < need {
-        return Resolved::Short(need);
+        return Err(Unwritten::TooShort(need));
     }
     let at = emit(out, 0, &package[..k]);
-    emit(out, at, &s[y..e]);
-    Resolved::Found(k, m)
+    emit(out, at, &s[place.to..e]);
+    Ok(Resolved {
+        package: k,
+        part: m,
+    })
 }
 
 // The package IRI and the part name that a pack IRI stands for, one after the other.
-pub fn resolve_pack(s: &[u8], out: &mut [u8]) -> Resolved
+pub fn resolve_pack(s: &[u8], out: &mut [u8]) -> Result<Resolved, Unwritten>
     ensures { of_resolved result out.new ≡ located (resolve_pack s.now) out.old }
 {
-    let p = place_of(s);
-    match p {
-        Place::At(x, y) => resolve_at(s, x, y, out),
-        Place::Nothing => Resolved::Refused(9),
-    }
+    let Some(place) = place_of(s) else {
+        return Err(Unwritten::Refused(Refusal::BadTarget));
+    };
+    resolve_at(s, place, out)
 }

@@ -8,8 +8,8 @@ use lib.Dec.{eqb}
 use lib.ListN.{length}
 use borrow.Author.Tests.{eqb-true, eqb-false}
 use Rattle.output.specs.Answers.{Answer}
-use Rattle.chars.specs.declared.folding.Order.{Order}
-use Rattle.chars.specs.declared.folding.Order.TheVariants.{Less, Equal, Greater}
+use Rattle.std.specs.declared.cmp.Ordering.{Ordering}
+use Rattle.std.specs.declared.cmp.Ordering.TheVariants.{Less, Equal, Greater}
 use Rattle.model.specs.Sets.{key_order, is_less, is_equal}
 use Rattle.model.specs.Package.{State, Kind, item_kind, default_kind, override_kind, relationship_kind, empty, charge}
 use Rattle.model.specs.Calls.{Call, start_refusal, step, answers, after, look}
@@ -19,7 +19,7 @@ use Rattle.contract.specs.Holds.{Holds}
 use Rattle.contract.specs.Ran.{Runs, none, more}
 use Rattle.package.specs.Demand.{Limited, Demanded, AsLedger, EveryRun}
 
-less_differs : (o : Order) → is_less o ≡ true → is_equal o ≡ false
+less_differs : (o : Ordering) → is_less o ≡ true → is_equal o ≡ false
 less_differs Less e = refl
 less_differs Equal e = absurd (false≢true e)
 less_differs Greater e = refl

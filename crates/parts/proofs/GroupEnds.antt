@@ -10,8 +10,8 @@ use lib.ListN.{length, get_or, drop, length-drop}
 use lib.Seq.{get_or-drop}
 use borrow.Author.Tests.{lt-ltb, le-ltb, ltb-true, ltb-false, not-true, not-false}
 use Rattle.chars.specs.Folding.{fold, equivalent, order}
-use Rattle.chars.specs.declared.folding.Order.{Order}
-use Rattle.chars.specs.declared.folding.Order.TheVariants.{Less, Greater}
+use Rattle.std.specs.declared.cmp.Ordering.{Ordering}
+use Rattle.std.specs.declared.cmp.Ordering.TheVariants.{Less, Greater}
 use Rattle.chars.proofs.Orders.{order_refl, order_less}
 use Rattle.chars.proofs.Equivalence.{equivalent_fold, fold_equivalent, equivalent_sym}
 use Rattle.names.specs.declared.items.Suffix.{Suffix}
@@ -61,7 +61,7 @@ module _ (p : Bytes) where
       begins_less (key_of_item i) (key_of_item j) l (λ f. true≢false (sym (fold_equivalent (prefix_of j.name) p (sym f ∙ e)) ∙ n)) in
       let v : order (fold (prefix_of j.name)) (fold p) ≡ Greater =
       ap (λ (s : Bytes). order (fold (prefix_of j.name)) s) (sym e) ∙ order_less (fold (prefix_of i.name)) (fold (prefix_of j.name)) u in
-      ap (λ (o : Order). is_less (then_by o (order (key_of_item j).1 (65534 / 2 ∷ [])))) v
+      ap (λ (o : Ordering). is_less (then_by o (order (key_of_item j).1 (65534 / 2 ∷ [])))) v
 
   -- item e is of the group
   module _ (xs : List Item) (s : Sorted key_of_item xs) (e : ℕ) (l : e < length xs) (g : in_group p (get_or xs e no_item) ≡ true) where

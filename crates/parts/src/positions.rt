@@ -8,9 +8,10 @@ ghost use Rattle.contract.specs.Ran.{Ran};
 ghost use Rattle.parts.specs.Walks.{Walked};
 
 use crate::runs::{makes_part, own_end};
-use contract::gate::opened;
+use contract::gate::check_package;
 use contract::search::item_count;
-use output::writing::{Written, put_text};
+use output::refusals::{Refusal, Unwritten};
+use output::writing::put_text;
 use store::rows::field;
 
 // Where a walk over the parts has come to, and how many it has passed.
@@ -49,18 +50,15 @@ pub(crate) fn walk(pkg: &[u8], n: usize, position: u64) -> Stop
 }
 
 // The spelling of the part at a position.
-pub fn part_at(pkg: &[u8], position: u64, out: &mut [u8]) -> Written
+pub fn part_at(pkg: &[u8], position: u64, out: &mut [u8]) -> Result<usize, Unwritten>
     ensures { Ran (Call.Prints (Print.PartAt position) out.old) pkg.now (of_written result out.new) pkg.now }
 {
-    let k = opened(pkg);
-    if k != 0 {
-        return Written::Refused(k);
-    }
+    check_package(pkg)?;
     let n = item_count(pkg);
     let stop = walk(pkg, n, position);
     let row = stop.row;
     if n <= row {
-        return Written::Refused(13);
+        return Err(Unwritten::Refused(Refusal::NotHeld));
     }
     put_text(field(pkg, row, 0), out)
 }

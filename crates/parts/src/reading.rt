@@ -9,9 +9,9 @@ ghost use Rattle.parts.specs.Copies.{Copied, Measured};
 use crate::copying::copy_rest;
 use crate::runs::{find_group, makes_part};
 use chars::folded::fold_into;
-use contract::gate::opened;
+use contract::gate::check_package;
 use names::parts::is_part_name;
-use output::writing::Written;
+use output::refusals::{Refusal, Unwritten};
 use store::rows::field;
 
 // What is still to be skipped behind n bytes.
@@ -30,15 +30,13 @@ fn copy_content(pkg: &[u8], from: usize, to: usize, offset: u64, out: &mut [u8])
 {
     let mut at = 0;
     let mut skip = offset;
-    let mut i = from;
-    while i < to {
+    for i in from..to {
         if out.len() <= at {
             return at;
         }
         let piece = field(pkg, i, 2);
         at = copy_rest(out, at, piece, skip);
         skip = skip_past(skip, piece.len());
-        i += 1;
     }
     at
 }
@@ -49,24 +47,19 @@ pub fn content_length(pkg: &[u8], from: usize, to: usize) -> usize
     ensures { Measured pkg.now from to result }
 {
     let mut n = 0;
-    let mut i = from;
-    while i < to {
+    for i in from..to {
         n += field(pkg, i, 2).len();
-        i += 1;
     }
     n
 }
 
 // The content of a part from an offset on, as much as the output takes.
-pub fn read_part(pkg: &[u8], name: &[u8], offset: u64, out: &mut [u8]) -> Written
+pub fn read_part(pkg: &[u8], name: &[u8], offset: u64, out: &mut [u8]) -> Result<usize, Unwritten>
     ensures { Ran (Call.Prints (Print.ReadPart name.now offset) out.old) pkg.now (of_written result out.new) pkg.now }
 {
-    let k = opened(pkg);
-    if k != 0 {
-        return Written::Refused(k);
-    }
+    check_package(pkg)?;
     if !is_part_name(name) {
-        return Written::Refused(4);
+        return Err(Unwritten::Refused(Refusal::NotAPartName));
     }
     let mut f = [0; 256];
     fold_into(&mut f, name);
@@ -74,7 +67,7 @@ pub fn read_part(pkg: &[u8], name: &[u8], offset: u64, out: &mut [u8]) -> Writte
     let from = group.from;
     let to = group.to;
     if !makes_part(pkg, from, to) {
-        return Written::Refused(13);
+        return Err(Unwritten::Refused(Refusal::NotHeld));
     }
-    Written::Bytes(copy_content(pkg, from, to, offset, out))
+    Ok(copy_content(pkg, from, to, offset, out))
 }

@@ -45,6 +45,7 @@ fn end_behind(pkg: &[u8], e: usize, n: usize, f: &[u8; 256], p: &[u8]) -> usize
 }
 
 // Where the items of the group p that stand side by side from row i on end, before row n. Most groups have one item, or few.
+// No `for`: where the rows end is the answer, also where none is looked at.
 fn group_end(pkg: &[u8], i: usize, n: usize, f: &[u8; 256], p: &[u8]) -> usize
     requires shape { Shape pkg.now }
     requires holds_folding { HoldsFolding f.now p.now }

@@ -11,7 +11,11 @@ use lib.ListN.{length, get_or, take}
 use lib.Seq.{length-take-le, take-length}
 use borrow.Author.Tests.{eq-eqb, ne_eqb, not-true, not-false, lt-ltb, le-ltb, le-leb, leb-true, leb-false}
 use Rattle.chars.specs.Bytes.{within}
+use Rattle.std.specs.Prelude.{Ok, Err}
 use Rattle.output.specs.Answers.{answer}
+use Rattle.output.specs.Refusals.{number}
+use Rattle.output.specs.declared.refusals.Refusal.{Refusal}
+use Rattle.output.specs.declared.refusals.Refusal.TheVariants.{NotAPartName}
 use Rattle.base.specs.Buffer.{part, splice}
 use Rattle.base.proofs.Writes.{write, within as inside_write, part_all}
 use Rattle.names.specs.Names.{part_name}
@@ -20,7 +24,7 @@ use Rattle.model.specs.Sets.{Bytes}
 use Rattle.model.specs.Fields.{first}
 use Rattle.model.specs.Package.{Item, State, no_item, item_limit, charge, group, is_part, spelling, content}
 use Rattle.model.specs.Cutting.{is_whole, cut_made, overfull, cut_refusal, suffix_sum}
-use Rattle.model.specs.Calls.{CutPart, Numbered}
+use Rattle.model.specs.Calls.{CutPart}
 use Rattle.model.proofs.Numbers.{numbered, zero_numbered}
 use Rattle.model.proofs.Wholes.{OneWhole, part_some, whole_part}
 use Rattle.model.proofs.Cutting.{group_named}
@@ -33,7 +37,6 @@ use Rattle.contract.specs.Holds.{Holds}
 use Rattle.contract.specs.Searches.{Counted}
 use Rattle.contract.specs.Answers.{of_cut}
 use Rattle.contract.specs.declared.answers.Cut.{Cut}
-use Rattle.contract.specs.declared.answers.Cut.TheVariants.{Into, Refused}
 use Rattle.contract.specs.Ran.{Ran}
 use Rattle.contract.specs.Opening.{Open}
 use Rattle.contract.proofs.Rans.{ran_cut, ran_cut_refused}
@@ -174,42 +177,46 @@ module _ (b : List ℕ) (r n p : ℕ) (x s : List ℕ) (ex : Sound b → r < cou
         let e = ap length held_name in
         (omega (arith, name_some (spelling g) w), omega (arith, name_few (spelling g) w))
 
-  pub cut_nameless : p ≡ 0 → CutRow b b r n (Into (length s / n) (length s % n))
-  cut_nameless z = record { done = refl; is = λ S name h ok at. absurd (omega (arith, name_length S name h ok at)) }
+  abbrev split_even : Cut
+  split_even = record { size = length s / n; rest = length s % n }
 
-  pub cut_row_done : (l t m : List ℕ) → t ≡ splice l 0 (take p x) → 255 ≤ length l → Divided b m r (take p t) n (length s / n) (length s % n) → CutRow b m r n (Into (length s / n) (length s % n))
+  pub cut_nameless : p ≡ 0 → CutRow b b r n split_even
+  cut_nameless z = record { is = λ S name h ok at. absurd (omega (arith, name_length S name h ok at)) }
+
+  pub cut_row_done : (l t m : List ℕ) → t ≡ splice l 0 (take p x) → 255 ≤ length l → Divided b m r (take p t) n (length s / n) (length s % n) → CutRow b m r n split_even
   cut_row_done l t m e len d = record {
-    done = refl;
     is = λ S name h ok at.
         let w = name_length S name h ok at in
         let en : take p t ≡ spelling (group name S.items) = copied l t x p e (omega arith) (omega arith) ∙ ap (λ (k : ℕ). take k x) w.1 ∙ take-length x ∙ held_name S name h ok at in
         let el = held_bytes S name h ok at in
-        (ap₂ (λ (i j : ℕ). answer 0 (i ∷ j ∷ []) []) (ap (λ (k : ℕ). k / n) el) (ap (λ (k : ℕ). k % n) el), d.is S name h ok at en (ap (λ (k : ℕ). k / n) el) (ap (λ (k : ℕ). k % n) el));
+        let size = ap (λ (k : ℕ). k / n) el in
+        let rest = ap (λ (k : ℕ). k % n) el in
+        (size, rest, d.is S name h ok at en size rest);
   }
 
 -- THE CALL
 module _ (b : List ℕ) (o : Open b) (name : Bytes) (n : ℕ) (q : Bool) (eq : q ≡ part_name name) where
   -- "4 not a part name"
-  pub cut_misnamed : not q ≡ true → Ran (CutPart name n) b (of_cut (Refused 4)) b
+  pub cut_misnamed : not q ≡ true → Ran (CutPart name n) b (of_cut (Err NotAPartName)) b
   unfolding cut_refusal first
-  cut_misnamed hq = ran_cut_refused b o name n 4 (λ z. omega arith) (numbered 4 (omega arith) (omega arith)) (λ S h. rw (← eq, not-true q hq) refl)
+  cut_misnamed hq = ran_cut_refused b o name n NotAPartName (numbered 4 (omega arith) (omega arith)) (λ S h. rw (← eq, not-true q hq) refl)
 
-  module _ (hq : not q ≡ false) (f t : ℕ) (g : Grouped b name f t) (k : ℕ) (w : CutRefused b f t n k) where
-    refusal : (S : State) → Holds b S → cut_refusal S name n ≡ k
+  module _ (hq : not q ≡ false) (f t : ℕ) (g : Grouped b name f t) where
+    refusal : (k : ℕ) → CutRefused b f t n k → (S : State) → Holds b S → cut_refusal S name n ≡ k
     unfolding cut_refusal first
-    refusal S h = rw (← eq, not-false q hq) (sym (w.is S name h g))
+    refusal k w S h = rw (← eq, not-false q hq) (sym (w.is S name h g))
 
     -- "18 follows 13, then comes 17, then 15"
-    pub cut_stopped : (k ≡ 0 → ⊥) → Ran (CutPart name n) b (of_cut (Refused k)) b
-    cut_stopped z = ran_cut_refused b o name n k z w.numbered refusal
+    pub cut_stopped : (r : Refusal) → CutRefused b f t n (number r) → Ran (CutPart name n) b (of_cut (Err r)) b
+    cut_stopped r w = ran_cut_refused b o name n r w.numbered (refusal (number r) w)
 
-    pub cut_made_lem : k ≡ 0 → (a : Cut) (m : List ℕ) → length m ≡ length b → CutRow b m f n a → Ran (CutPart name n) b (of_cut a) m
-    cut_made_lem z a m l d =
-        ran_cut b o name n (of_cut a) m l (subst Numbered (sym d.done) zero_numbered) (λ e. absurd (e d.done))
+    pub cut_made_lem : CutRefused b f t n 0 → (a : Cut) (m : List ℕ) → length m ≡ length b → CutRow b m f n a → Ran (CutPart name n) b (of_cut (Ok a)) m
+    cut_made_lem w a m l d =
+        ran_cut b o name n (of_cut (Ok a)) m l zero_numbered (λ e. absurd (e refl))
         (λ S h.
-        let ok = refusal S h ∙ z in
+        let ok = refusal 0 w S h in
         let pa = cut_part S name n ok in
         let at : WholeAt S name f =
         (first_there b name f t g S h pa, (whole_part (group name S.items) pa (cut_whole S name n ok)).only ∙ ap (λ (i : Item). i ∷ []) (first_item b name f t g S h pa)) in
-        let w = d.is S name h ok at in
-        rw (cut_done S name n ok) w)
+        let made = d.is S name h ok at in
+        rw (cut_done S name n ok) (ap₂ (λ (i j : ℕ). answer 0 (i ∷ j ∷ []) []) made.0 made.1, made.2))

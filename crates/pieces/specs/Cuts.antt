@@ -2,14 +2,12 @@
 -- Assumes nothing.
 use Rattle.std.specs.Prelude.{ℕ, ◌≤◌, ◌<◌, ◌≡◌, Bool, true, not, List, [], ◌∷◌, length, get_or}
 use Rattle.chars.specs.Bytes.{within}
-use Rattle.output.specs.Answers.{answer}
 use Rattle.model.specs.Sets.{Bytes}
 use Rattle.model.specs.Fields.{when, first}
 use Rattle.model.specs.Package.{State, no_item, group, is_part, spelling}
 use Rattle.model.specs.Cutting.{quotient, rest, is_whole, cut_made, overfull, cut_refusal}
 use Rattle.model.specs.Calls.{Numbered}
 use Rattle.contract.specs.Holds.{Lies, Holds}
-use Rattle.contract.specs.Answers.{of_cut}
 use Rattle.contract.specs.declared.answers.Cut.{Cut}
 use Rattle.parts.specs.Runs.{Grouped}
 
@@ -40,6 +38,5 @@ pub record Divided (b m : List ℕ) (r : ℕ) (p : Bytes) (n q x : ℕ) : Type 0
 
 -- a is the answer to a cut of the item in row r, and m the buffer after it
 pub record CutRow (b m : List ℕ) (r n : ℕ) (a : Cut) : Type 0 where
-  pub done : (of_cut a).number ≡ 0
   pub is : (S : State) (name : Bytes) → Holds b S → cut_refusal S name n ≡ 0 → WholeAt S name r
-      → (of_cut a ≡ answer 0 (quotient (group name S.items) n ∷ rest (group name S.items) n ∷ []) []) × Lies m (cut_made S name n)
+      → (a.size ≡ quotient (group name S.items) n) × (a.rest ≡ rest (group name S.items) n) × Lies m (cut_made S name n)

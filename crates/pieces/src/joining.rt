@@ -2,15 +2,15 @@
 ghost use Rattle.std.specs.Prelude.{◌≤◌};
 ghost use Rattle.model.specs.Calls.{Call, Change};
 ghost use Rattle.store.specs.Layout.{slot_count};
-ghost use Rattle.contract.specs.Answers.{of_did};
+ghost use Rattle.contract.specs.Answers.{of_done};
 ghost use Rattle.contract.specs.Ran.{Ran};
 ghost use Rattle.pieces.specs.Joins.{Merged};
 
 use crate::rows::{absorb, rename};
 use chars::folded::fold_into;
-use contract::answers::Did;
-use contract::gate::opened;
+use contract::gate::check_package;
 use names::parts::is_part_name;
+use output::refusals::Refusal;
 use parts::runs::{find_group, makes_part};
 use store::rows::tag;
 
@@ -20,23 +20,18 @@ fn merge(pkg: &mut [u8], r: usize, n: usize)
     ensures { Merged pkg.old pkg.new r n }
 {
     rename(pkg, r, 0, b"");
-    let mut k = 1;
-    while k < n {
+    for _k in 1..n {
         absorb(pkg, r);
-        k += 1;
     }
 }
 
 // Joins the pieces of a part into one whole item in piece 0's spelling.
-pub fn join_part(pkg: &mut [u8], name: &[u8]) -> Did
-    ensures { Ran (Call.Changes (Change.JoinPart name.now)) pkg.old (of_did result) pkg.new }
+pub fn join_part(pkg: &mut [u8], name: &[u8]) -> Result<(), Refusal>
+    ensures { Ran (Call.Changes (Change.JoinPart name.now)) pkg.old (of_done result) pkg.new }
 {
-    let k = opened(pkg);
-    if k != 0 {
-        return Did::Refused(k);
-    }
+    check_package(pkg)?;
     if !is_part_name(name) {
-        return Did::Refused(4);
+        return Err(Refusal::NotAPartName);
     }
     let mut f = [0; 256];
     fold_into(&mut f, name);
@@ -44,11 +39,11 @@ pub fn join_part(pkg: &mut [u8], name: &[u8]) -> Did
     let from = group.from;
     let to = group.to;
     if !makes_part(pkg, from, to) {
-        return Did::Refused(13);
+        return Err(Refusal::NotHeld);
     }
     if tag(pkg, from) == 0 {
-        return Did::Refused(18);
+        return Err(Refusal::WrongForm);
     }
     merge(pkg, from, to - from);
-    Did::Done
+    Ok(())
 }

@@ -25,10 +25,8 @@ pub(crate) fn suffixes_length(n: usize) -> usize
     ensures { (result ≡ suffix_sum n n) × (result ≤ 17 * n) }
 {
     let mut sum = 0;
-    let mut k = 0;
-    while k < n {
+    for k in 0..n {
         sum += suffix_length(k, k + 1 == n);
-        k += 1;
     }
     sum
 }
@@ -47,10 +45,8 @@ pub(crate) fn split(pkg: &mut [u8], r: usize, p: &[u8], n: usize, q: usize, rest
     requires { (0 < n) × (n ≤ 256) × (0 < length p.now) × (length p.now < 2 ^ 16) × (q < 2 ^ 32) }
     ensures { Divided pkg.old pkg.new r p.now n q rest }
 {
-    let mut k = n;
-    while 1 < k {
-        split_off(pkg, r, p, k - 1, k == n, piece_size(q, rest, k - 1));
-        k -= 1;
+    for k in (1..n).rev() {
+        split_off(pkg, r, p, k, k + 1 == n, piece_size(q, rest, k));
     }
-    name_first(pkg, r, k == n);
+    name_first(pkg, r, n == 1);
 }

@@ -30,7 +30,7 @@ fn digit(d: usize) -> u8
     (48 + d) as u8
 }
 
-// Writes a number below 1,000 in decimal.
+// Writes a number below 1,000 in decimal: by hand, as there is no heap for what `format!` makes.
 fn put_number(out: &mut [u8], at: usize, k: usize)
     requires { (k < 1000) × (at + 3 ≤ length out.old) }
     ensures { out.new ≡ splice out.old at (decimal4 k) }

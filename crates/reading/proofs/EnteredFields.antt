@@ -7,16 +7,15 @@ use mathlib.Core.Bool.{Bool, true, false}
 use mathlib.Core.List.{List, [], ◌∷◌}
 use mathlib.Core.Option.{Option, none, some, none-ne-some}
 use lib.ListN.{length, take}
+use Rattle.std.specs.Prelude.{Option as Optional, Some, None, IfSome}
 use Rattle.chars.specs.FoldedNames.{folded_size}
 use Rattle.markup.specs.Entries.{Entry, SaysDefault, SaysOverride, SaysRelationship}
-use Rattle.markup.specs.EntryPlaces.{says_typed}
+use Rattle.markup.specs.EntryPlaces.{mode_number, says_typed}
 use Rattle.markup.specs.PiecePlaces.{entry_in}
 use Rattle.markup.specs.FieldPlaces.{typed_in, short_typed, TypedFits, TypedAt, related_in, short_related, RelatedFits, RelatedAt}
 use Rattle.markup.specs.declared.entries.Kind.TheVariants.{Types, Relationships}
 use Rattle.markup.specs.declared.fields.TypedFields.{TypedFields}
-use Rattle.markup.specs.declared.fields.TypedFields.TheVariants.{Typing, NotTyped}
 use Rattle.markup.specs.declared.fields.RelatedFields.{RelatedFields}
-use Rattle.markup.specs.declared.fields.RelatedFields.TheVariants.{Relating, NotRelated}
 use Rattle.model.specs.Sets.{Bytes}
 use Rattle.model.specs.Reading.{Entered, types_said, relationships_said}
 use Rattle.model.proofs.FieldCuts.{default_kept, override_kept, relationship_kept}
@@ -64,21 +63,21 @@ typed_none (some (SaysDefault u v)) h e g = absurd (none-ne-some _ h)
 typed_none (some (SaysOverride u v)) h e g = absurd (none-ne-some _ h)
 typed_none (some (SaysRelationship i t m u)) h e g = none_one e g
 
-module _ {s : List ℕ} {at : ℕ} {key media : List ℕ} {r : TypedFields} (t : TypedAt s at key media r) where
-  pub typed_sizes : {d : Bool} {n m : ℕ} → r ≡ Typing d n m → (n ≤ length key) × (m ≤ length media)
-  typed_sizes e = let f = subst TypedFits e t.fits in (omega (arith, f.0, t.sizes.0), omega (arith, f.1, t.sizes.1))
+module _ {s : List ℕ} {at : ℕ} {key media : List ℕ} {r : Optional TypedFields} (t : TypedAt s at key media r) where
+  pub typed_sizes : {v : TypedFields} → r ≡ Some v → (v.key ≤ length key) × (v.media ≤ length media)
+  typed_sizes e = let f = subst (λ (x : Optional TypedFields). IfSome x TypedFits) e t.fits in (omega (arith, f.0, t.sizes.0), omega (arith, f.1, t.sizes.1))
 
-  module _ (f : FieldedAt (typed_at s at)) {d : Bool} {n m : ℕ} (e : r ≡ Typing d n m) where
-    pub typed_is : {b : Bool} → d ≡ b → typed_at s at ≡ typed_as b (take n key) (take m media) ∷ []
+  module _ (f : FieldedAt (typed_at s at)) {v : TypedFields} (e : r ≡ Some v) where
+    pub typed_is : {b : Bool} → v.default ≡ b → typed_at s at ≡ typed_as b (take v.key key) (take v.media media) ∷ []
     typed_is h =
-        typed_whole (entry_in Types s at) d (take n key) (take m media) (ap (typed_in key media) (sym e) ∙ t.is) f
-        ∙ ap (λ (a : Bool). typed_as a (take n key) (take m media) ∷ []) h
+        typed_whole (entry_in Types s at) v.default (take v.key key) (take v.media media) (ap (typed_in key media) (sym e) ∙ t.is) f
+        ∙ ap (λ (a : Bool). typed_as a (take v.key key) (take v.media media) ∷ []) h
 
-    pub typed_key : (0 < length (take n key)) × (length (take n key) ≤ folded_size)
-    typed_key = typed_fits d (take n key) (take m media) (f (typed_as d (take n key) (take m media)) (typed_is refl))
+    pub typed_key : (0 < length (take v.key key)) × (length (take v.key key) ≤ folded_size)
+    typed_key = typed_fits v.default (take v.key key) (take v.media media) (f (typed_as v.default (take v.key key) (take v.media media)) (typed_is refl))
 
   -- where they hold no entry, there is none
-  pub typed_nothing : (p q : List ℕ) → r ≡ NotTyped → Added (typed_at s at) p q
+  pub typed_nothing : (p q : List ℕ) → r ≡ None → Added (typed_at s at) p q
   typed_nothing p q e = record { is = λ x g S h z. typed_none (entry_in Types s at) (ap (typed_in key media) (sym e) ∙ t.is) x g }
 
 -- RELATIONSHIPS, in the same way
@@ -104,25 +103,29 @@ related_none source (some (SaysDefault u v)) h e g = none_one e g
 related_none source (some (SaysOverride u v)) h e g = none_one e g
 related_none source (some (SaysRelationship i t m u)) h e g = absurd (none-ne-some _ h)
 
-module _ {s : List ℕ} {at : ℕ} {id iri target : List ℕ} {r : RelatedFields} (t : RelatedAt s at id iri target r) where
-  pub related_sizes : {n k mode l : ℕ} → r ≡ Relating n k mode l → (n ≤ length id) × (k ≤ length iri) × (l ≤ length target)
+module _ {s : List ℕ} {at : ℕ} {id iri target : List ℕ} {r : Optional RelatedFields} (t : RelatedAt s at id iri target r) where
+  pub related_sizes : {v : RelatedFields} → r ≡ Some v → (v.id ≤ length id) × (v.iri ≤ length iri) × (v.target ≤ length target)
   related_sizes e =
-      let f = subst RelatedFits e t.fits in
+      let f = subst (λ (x : Optional RelatedFields). IfSome x RelatedFits) e t.fits in
       let z = t.sizes in
       (omega (arith, f.0, z.0), omega (arith, f.1, z.1), omega (arith, f.2, z.2))
 
-  module _ (source : Bytes) (f : FieldedAt (related_at source s at)) {n k mode l : ℕ} (e : r ≡ Relating n k mode l) where
-    pub related_is : related_at source s at ≡ a_relationship source (take n id) (take k iri) mode (take l target) ∷ []
-    related_is =
-        related_whole source (entry_in Relationships s at) (take n id) (take k iri) mode (take l target) (ap (related_in id iri target) (sym e) ∙ t.is) f
+  module _ (source : Bytes) (f : FieldedAt (related_at source s at)) {v : RelatedFields} (e : r ≡ Some v) where
+    related_is_lem : related_at source s at ≡ a_relationship source (take v.id id) (take v.iri iri) (mode_number v.mode) (take v.target target) ∷ []
+    related_is_lem =
+        related_whole source (entry_in Relationships s at) (take v.id id) (take v.iri iri) (mode_number v.mode) (take v.target target) (ap (related_in id iri target) (sym e) ∙ t.is) f
 
-    pub related_source : (0 < length source) × (length source ≤ folded_size) × (mode ≤ 1)
+    pub related_is : {mode : ℕ} → mode ≡ mode_number v.mode
+        → related_at source s at ≡ a_relationship source (take v.id id) (take v.iri iri) mode (take v.target target) ∷ []
+    related_is q = related_is_lem ∙ ap (λ (k : ℕ). a_relationship source (take v.id id) (take v.iri iri) k (take v.target target) ∷ []) (sym q)
+
+    pub related_source : (0 < length source) × (length source ≤ folded_size) × (mode_number v.mode ≤ 1)
     related_source =
-        let z = f (a_relationship source (take n id) (take k iri) mode (take l target)) related_is in
-        let fits = source_fits source (take n id) (take k iri) mode (take l target) z in
-        (fits.0, fits.1, mode_small source (take n id) (take k iri) mode (take l target) z)
+        let z = f (a_relationship source (take v.id id) (take v.iri iri) (mode_number v.mode) (take v.target target)) related_is_lem in
+        let fits = source_fits source (take v.id id) (take v.iri iri) (mode_number v.mode) (take v.target target) z in
+        (fits.0, fits.1, mode_small source (take v.id id) (take v.iri iri) (mode_number v.mode) (take v.target target) z)
 
-  pub related_nothing : (source p q : List ℕ) → r ≡ NotRelated → Added (related_at source s at) p q
+  pub related_nothing : (source p q : List ℕ) → r ≡ None → Added (related_at source s at) p q
   related_nothing source p q e = record {
     is = λ x g S h z. related_none source (entry_in Relationships s at) (ap (related_in id iri target) (sym e) ∙ t.is) x g;
   }

@@ -4,6 +4,9 @@ use Prim.Native.Nat.{ℕ, ◌+◌, ◌-◌, ◌≤◌}
 use native.Mathlib.Omega.{arith}
 use mathlib.Core.Path.{◌≡◌, refl, sym, ap, ◌∙◌, subst}
 use mathlib.Core.List.{List, [], ◌∷◌}
+use Rattle.std.specs.Prelude.{Ok, Err}
+use Rattle.output.specs.Refusals.{number}
+use Rattle.output.specs.declared.refusals.Refusal.{Refusal}
 use Rattle.markup.specs.declared.entries.Kind.{Kind}
 use Rattle.markup.specs.declared.entries.Kind.TheVariants.{Types, Relationships}
 use Rattle.model.specs.Sets.{Bytes, lookup, sum_of}
@@ -17,9 +20,7 @@ use Rattle.contract.specs.Holds.{Holds}
 use Rattle.contract.proofs.RowCharges.{used_charge}
 use Rattle.contract.proofs.EmptyRows.{empty_holds}
 use Rattle.reading.specs.Notes.{shadow_capacity, Blank, Only, Notes, Joined, Beyond, shade_default, shade_override, shade_relationship, shade}
-use Rattle.reading.specs.Judging.{AllFielded, JudgedAs, JudgedAt, JudgedAll}
-use Rattle.reading.specs.declared.shadow.Judged.{Judged}
-use Rattle.reading.specs.declared.shadow.Judged.TheVariants.{Takes, Refused}
+use Rattle.reading.specs.Judging.{AllFielded, JudgedAt, JudgedAll}
 
 -- AN EMPTY SHADOW notes nothing,
 none_of : (K : Kind) (C : ℕ) → Only K (empty C)
@@ -88,18 +89,15 @@ module _ {K : Kind} {source b : List ℕ} {es rest : List Entered} {m : List ℕ
     is = λ S h. let u = g.is S h in sym (u.is ∙ ap (entries_refusal u.after) q);
   }
 
-  -- the next of them is e, and the answer r is what is said of it
-  module _ {l more : List Entered} {e : Entered} (q : rest ≡ e ∷ more) (f : l ≡ e ∷ []) {n : List ℕ} {r : Judged} (j : JudgedAt K source b m n room l r) where
-    judged_as : (x : Judged) → r ≡ x → JudgedAs K source b m n room e x
-    judged_as x h = subst (JudgedAs K source b m n room e) h (j.is e f)
+  -- the next of them is e: it takes so many bytes
+  module _ {l more : List Entered} {e : Entered} (q : rest ≡ e ∷ more) (f : l ≡ e ∷ []) {n : List ℕ} where
+    pub next_fits : {size : ℕ} → JudgedAt K source b m n room l (Ok size) → size ≤ room
+    next_fits j = (j.is e f).fits g.noted g.notes
 
-    pub next_fits : (size : ℕ) → r ≡ Takes size → size ≤ room
-    next_fits size h = (judged_as (Takes size) h).fits g.noted g.notes
-
-    pub next_taken : (size : ℕ) → r ≡ Takes size → JudgedSo K source b es more n (room - size)
+    pub next_taken : {size : ℕ} → JudgedAt K source b m n room l (Ok size) → JudgedSo K source b es more n (room - size)
     unfolding entries_refusal
-    next_taken size h =
-        let t = judged_as (Takes size) h in
+    next_taken j =
+        let t = j.is e f in
         record {
           noted = entry_made g.noted (shade e);
           notes = t.noted g.noted g.notes;
@@ -114,10 +112,11 @@ module _ {K : Kind} {source b : List ℕ} {es rest : List Entered} {m : List ℕ
               };
         }
 
-    pub next_refused : (k : ℕ) → r ≡ Refused k → JudgedAll b es k
+    -- or is refused
+    pub next_refused : {r : Refusal} → JudgedAt K source b m n room l (Err r) → JudgedAll b es (number r)
     unfolding entries_refusal
-    next_refused k h =
-        let t = judged_as (Refused k) h in
+    next_refused j =
+        let t = j.is e f in
         record {
           numbered = t.numbered;
           fielded = λ z. absurd (t.some z);

@@ -5,6 +5,10 @@ use mathlib.Core.Path.{◌≡◌, ap, sym, ◌∙◌, subst}
 use mathlib.Core.Bool.{Bool}
 use mathlib.Core.List.{List}
 use lib.ListN.{length}
+use Rattle.std.specs.Prelude.{Result, Ok, Err}
+use Rattle.output.specs.Refusals.{number}
+use Rattle.output.specs.declared.refusals.Refusal.{Refusal}
+use Rattle.output.proofs.Answering.{number_some}
 use Rattle.markup.specs.declared.entries.Kind.{Kind}
 use Rattle.model.specs.Sets.{Bytes}
 use Rattle.model.specs.Package.{State, charge}
@@ -23,8 +27,6 @@ use Rattle.contract.proofs.RowOrders.{holds_ordered}
 use Rattle.contract.proofs.SetStates.{lies_put}
 use Rattle.reading.specs.Notes.{shade, Notes, Joined, Beyond, LeftIn, note_refusal, NotedRow}
 use Rattle.reading.specs.Judging.{fields_of, TakenAs, StoppedAs, JudgedAs}
-use Rattle.reading.specs.declared.shadow.Judged.{Judged}
-use Rattle.reading.specs.declared.shadow.Judged.TheVariants.{Takes, Refused}
 use Rattle.reading.proofs.NotedRows.{noted_fits, noted_put, note_is}
 
 -- how the entries of a set are noted in the readings of a kind
@@ -46,17 +48,17 @@ pub record Noting {E : Type 0} (K : RowKind E) (made : E → Entered) (shaded : 
 module _ {E : Type 0} (K : RowKind E) (made : E → Entered) (shaded : E → E) (Mine : E → Type 0) (R : Kind) (source : Bytes)
     (N : Noting K made shaded Mine R source) (e : E) (mine : Mine e) (b m n : List ℕ) (room : ℕ) where
   -- by its fields
-  pub field_stopped : (k : ℕ) → k ≡ K.kind.fields e → (k ≡ 0 → ⊥) → StoppedAs R source b m room (made e) k
-  field_stopped k ek z = record {
-    numbered = subst Numbered (sym ek) (N.numbered e);
-    some = z;
-    is = λ T t S U h y. N.puts.refusal U e ∙ first_met (K.kind.fields e) _ (λ f. z (ek ∙ f)) ∙ sym ek;
+  pub field_stopped : (r : Refusal) → number r ≡ K.kind.fields e → StoppedAs R source b m room (made e) (number r)
+  field_stopped r er = record {
+    numbered = subst Numbered (sym er) (N.numbered e);
+    some = number_some r;
+    is = λ T t S U h y. N.puts.refusal U e ∙ first_met (K.kind.fields e) _ (λ f. number_some r (er ∙ f)) ∙ sym er;
   }
 
   module _ (f : K.kind.fields e ≡ 0) (left size : ℕ) (taken : Bool) (ez : size ≡ K.kind.charge e)
       (tk : Taken b (set_key K.set (K.kind.key e)) taken) (lf : LeftIn b K.set K.kind.limit left) where
-    noting_stopped : (k : ℕ) → NotedRow m n taken left room size (K.row (shaded e)) (Refused k) → StoppedAs R source b m room (made e) k
-    noting_stopped k w = record {
+    noting_stopped : (r : Refusal) → NotedRow m n taken left room size (K.row (shaded e)) (Err r) → StoppedAs R source b m room (made e) (number r)
+    noting_stopped r w = record {
       numbered = w.0;
       some = w.1;
       is = λ T t S U h y.
@@ -66,7 +68,7 @@ module _ {E : Type 0} (K : RowKind E) (made : E → Entered) (shaded : E → E) 
           y.left ez f);
     }
 
-    noting_taken : (k : ℕ) → NotedRow m n taken left room size (K.row (shaded e)) (Takes k) → TakenAs R source b m n room (made e) k
+    noting_taken : (k : ℕ) → NotedRow m n taken left room size (K.row (shaded e)) (Ok k) → TakenAs R source b m n room (made e) k
     noting_taken k w = record {
       fielded = N.judged e ∙ f;
       fits = λ T t. subst (λ (i : ℕ). i ≤ room) (sym w.0) (fits T t);
@@ -100,6 +102,6 @@ module _ {E : Type 0} (K : RowKind E) (made : E → Entered) (shaded : E → E) 
               ∙ noted_put K N.lawful shaded Mine e b m left room size taken lf.few T t.holds (N.roomy e f m T t) (none T t) (N.fielded e f)));
         }
 
-    pub noting_judged : (r : Judged) → NotedRow m n taken left room size (K.row (shaded e)) r → JudgedAs R source b m n room (made e) r
-    noting_judged (Takes k) w = noting_taken k w
-    noting_judged (Refused k) w = noting_stopped k w
+    pub noting_judged : (r : Result ℕ Refusal) → NotedRow m n taken left room size (K.row (shaded e)) r → JudgedAs R source b m n room (made e) r
+    noting_judged (Ok k) w = noting_taken k w
+    noting_judged (Err r) w = noting_stopped r w

@@ -1,20 +1,24 @@
 -- An entry noted in the shadow, whichever its set: what refuses its row there refuses the entry beside the package.
 -- Assumes nothing.
-use Prim.Native.Nat.{ℕ, zero, suc, ◌+◌, ◌-◌, ◌≤◌, ◌<◌}
-use mathlib.Core.Path.{◌≡◌, refl, ap, ap₂, sym, ◌∙◌, subst}
+use Prim.Native.Nat.{ℕ, ◌+◌, ◌-◌, ◌≤◌, ◌<◌}
+use mathlib.Core.Path.{◌≡◌, refl, ap, ap₂, sym, ◌∙◌}
 use mathlib.Core.Bool.{Bool, true, false, ◌||◌}
 use mathlib.Core.List.{List, [], ◌∷◌}
 use native.Mathlib.Omega.{arith}
 use lib.Dec.{leb, ltb, eqb}
 use lib.ListN.{length}
 use borrow.Author.Tests.{leb-true, leb-false, le-leb, lt-leb, ltb-true, ltb-false, lt-ltb, le-ltb, eqb-true, eqb-false}
-use Rattle.output.specs.Answers.{Answer, refusing}
-use Rattle.output.proofs.Answering.{refusing_is}
+use Rattle.std.specs.Prelude.{Ok, Err}
+use Rattle.output.specs.Answers.{Answer}
+use Rattle.output.specs.Refusals.{number}
+use Rattle.output.specs.declared.refusals.Refusal.{Refusal}
+use Rattle.output.specs.declared.refusals.Refusal.TheVariants as refusal
+use Rattle.output.proofs.Answering.{number_some}
 use Rattle.model.specs.Sets.{Key, same_key, held, lookup, insert}
 use Rattle.model.specs.Fields.{when, first}
 use Rattle.model.specs.Package.{State, Kind, charge}
 use Rattle.model.specs.Puts.{no_room, put_refusal, put_in}
-use Rattle.model.specs.Calls.{refused, Numbered}
+use Rattle.model.specs.Calls.{done, refused}
 use Rattle.model.proofs.Refusals.{first_met, first_unmet, first_one, all_none, none_all, unmet}
 use Rattle.model.proofs.Sets.{length_insert}
 use Rattle.model.proofs.KindLaws.{Lawful}
@@ -23,15 +27,11 @@ use Rattle.store.specs.Rows.{Row}
 use Rattle.contract.specs.Rows.{set_key, RowKind}
 use Rattle.contract.specs.Holds.{Holds}
 use Rattle.contract.specs.Searches.{Ordered}
-use Rattle.contract.specs.Answers.{of_did}
-use Rattle.contract.specs.declared.answers.Did.{Did}
-use Rattle.contract.specs.declared.answers.Did.TheVariants as did
 use Rattle.contract.specs.Entries.{Taken, row_refusal, Entered}
 use Rattle.contract.proofs.RowKinds.{RowLawful}
 use Rattle.contract.proofs.RowOrders.{holds_ordered}
 use Rattle.contract.proofs.SetStates.{held_row, set_rows, refusal_is}
 use Rattle.reading.specs.Notes.{Joined, LeftIn, note_refusal, NotedRow}
-use Rattle.reading.specs.declared.shadow.Judged.TheVariants.{Takes, Refused}
 
 -- 10 by the package a or the shadow b, then 15 by the set c or the capacity d
 ten_fifteen : (a b c d : Bool) → first (when a 10 ∷ first (when b 10 ∷ when d 15 ∷ when c 15 ∷ []) ∷ []) ≡ first (0 ∷ when (b || a) 10 ∷ when (c || d) 15 ∷ [])
@@ -72,7 +72,7 @@ or_assoc false b c = refl
 
 -- NOTING, each way out: the key is taken in the package
 module _ (m n : List ℕ) (left room size : ℕ) (x : Row) where
-  pub noted_taken : (taken : Bool) → taken ≡ true → NotedRow m n taken left room size x (Refused 10)
+  pub noted_taken : (taken : Bool) → taken ≡ true → NotedRow m n taken left room size x (Err refusal.Taken)
   noted_taken taken e = (
     (omega arith, λ z. omega arith),
     (λ z. omega arith),
@@ -80,40 +80,31 @@ module _ (m n : List ℕ) (left room size : ℕ) (x : Row) where
         sym (ap (λ (t : Bool). first (when t 10 ∷ row_refusal m (when (ltb room size) 15) left x ∷ [])) e ∙ first_met 10 _ (λ z. omega arith)),
   )
 
-  -- it is not: d is what was answered to the row
-  module _ (taken : Bool) (e : taken ≡ false) (own : ℕ) (eo : own ≡ when (ltb room size) 15) (d : Did) (w : Entered m own left x (of_did d) n) where
+  -- it is not, and the shadow takes the row or refuses it
+  module _ (taken : Bool) (e : taken ≡ false) (own : ℕ) (eo : own ≡ when (ltb room size) 15) where
     row_only : note_refusal m taken left room size x ≡ row_refusal m own left x
     row_only =
         ap₂ (λ (t : Bool) (k : ℕ). first (when t 10 ∷ row_refusal m k left x ∷ [])) e (sym eo) ∙ first_unmet 0 _ refl ∙ first_one _
 
-    pub noted_made : (k : ℕ) → k ≡ size → d ≡ did.Done → NotedRow m n taken left room size x (Takes k)
-    noted_made k ek ed = (ek, λ o. let z = none_refused o in (row_only ∙ z, (w.made o z).1))
+    pub noted_made : Entered m own left x done n → NotedRow m n taken left room size x (Ok size)
+    noted_made w = (refl, λ o. let z = none_refused o in (row_only ∙ z, (w.made o z).1))
       where
         none_refused : Ordered m → row_refusal m own left x ≡ 0
         none_refused o = go (eqb (row_refusal m own left x) 0) refl
           where
             go : (t : Bool) → eqb (row_refusal m own left x) 0 ≡ t → row_refusal m own left x ≡ 0
             go true f = eqb-true _ 0 f
-            go false f = sym (ap (λ (a : Answer). a.number) (sym (ap of_did ed) ∙ w.stopped o (eqb-false _ 0 f)))
+            go false f = sym (ap (λ (a : Answer). a.number) (w.stopped o (eqb-false _ 0 f)))
 
-    pub noted_refused : (k : ℕ) → d ≡ did.Refused k → NotedRow m n taken left room size x (Refused k)
-    noted_refused k ed =
-        let a : of_did d ≡ refusing k (refused k) = ap of_did ed in
-        let n = subst (λ (b : Answer). Numbered b.number) a w.numbered in
-        let z : k ≡ 0 → ⊥ = λ f. never k f n in
-        let i : of_did d ≡ refused k = a ∙ refusing_is k z (refused k) in
-        (subst (λ (b : Answer). Numbered b.number) i w.numbered, z, λ o. sym (row_only ∙ met o z i))
+    pub noted_refused : (r : Refusal) → Entered m own left x (refused (number r)) n → NotedRow m n taken left room size x (Err r)
+    noted_refused r w = (w.numbered, number_some r, λ o. sym (row_only ∙ met o))
       where
-        never : (j : ℕ) → j ≡ 0 → Numbered (refusing j (refused j)).number → ⊥
-        never zero f n = let l : 256 ≤ 20 = n.0 in omega arith
-        never (suc j) f n = omega arith
-
-        met : Ordered m → (k ≡ 0 → ⊥) → of_did d ≡ refused k → row_refusal m own left x ≡ k
-        met o z i = go (eqb (row_refusal m own left x) 0) refl
+        met : Ordered m → row_refusal m own left x ≡ number r
+        met o = go (eqb (row_refusal m own left x) 0) refl
           where
-            go : (t : Bool) → eqb (row_refusal m own left x) 0 ≡ t → row_refusal m own left x ≡ k
-            go true f = absurd (z (ap (λ (a : Answer). a.number) (sym i ∙ (w.made o (eqb-true _ 0 f)).0)))
-            go false f = ap (λ (a : Answer). a.number) (sym (w.stopped o (eqb-false _ 0 f)) ∙ i)
+            go : (t : Bool) → eqb (row_refusal m own left x) 0 ≡ t → row_refusal m own left x ≡ number r
+            go true f = absurd (number_some r (ap (λ (a : Answer). a.number) (w.made o (eqb-true _ 0 f)).0))
+            go false f = ap (λ (a : Answer). a.number) (sym (w.stopped o (eqb-false _ 0 f)))
 
 -- THE SETS with one entry more
 module _ {E : Type 0} (kind : Kind E) (L : Lawful kind) (shaded : E → E) (Mine : E → Type 0)

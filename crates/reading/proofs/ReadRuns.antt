@@ -5,26 +5,28 @@ use mathlib.Core.Path.{◌≡◌, refl, sym, ap, ◌∙◌, subst}
 use mathlib.Core.List.{List, [], ◌∷◌}
 use lib.ListN.{length}
 use Rattle.output.specs.Answers.{Answer}
-use Rattle.output.proofs.Answering.{refusing_is}
+use Rattle.output.specs.Refusals.{number}
+use Rattle.output.specs.declared.refusals.Refusal.{Refusal}
+use Rattle.output.proofs.Answering.{number_some}
 use Rattle.markup.specs.Entries.{Entry}
 use Rattle.markup.specs.Streams.{Said, Unread, said, entries_of, form_of}
 use Rattle.markup.specs.FormPlaces.{Accepted}
+use Rattle.markup.specs.Walks.{refusal_of, number as fault_number}
+use Rattle.markup.specs.declared.marks.Fault.{Fault}
+use Rattle.markup.specs.declared.marks.Fault.TheVariants.{Malformed, TooDeep}
 use Rattle.markup.specs.declared.entries.Kind.{Kind}
 use Rattle.markup.specs.declared.entries.Kind.TheVariants.{Types, Relationships}
 use Rattle.markup.proofs.EntryKinds.{said_of}
-use Rattle.markup.proofs.Refusals.{unread_some}
 use Rattle.markup.proofs.PlacedEntries.{first_said}
 use Rattle.model.specs.Sets.{Bytes}
 use Rattle.model.specs.Fields.{first, source_field}
 use Rattle.model.specs.Package.{State}
 use Rattle.model.specs.Reading.{Entered, types_in, relationships_in, entries_refusal, entries_made, read_types_refusal, read_relationships_refusal}
-use Rattle.model.specs.Calls.{Change, Changes, ReadTypes, ReadRelationships, refused, changed, change, change_refusal, change_made}
+use Rattle.model.specs.Calls.{Change, Changes, ReadTypes, ReadRelationships, done, refused, changed, change, change_refusal, change_made}
 use Rattle.model.proofs.Refusals.{first_met, first_unmet, first_one, changed_done, changed_same}
 use Rattle.model.proofs.Numbers.{zero_numbered}
 use Rattle.model.proofs.EntryCounts.{Saying, types_saying, relationships_saying, first_all, first_refusal_lem}
 use Rattle.contract.specs.Holds.{Holds}
-use Rattle.contract.specs.Answers.{of_did}
-use Rattle.contract.specs.declared.answers.Did.TheVariants.{Done, Refused}
 use Rattle.contract.specs.Ran.{Ran}
 use Rattle.contract.specs.Opening.{Open}
 use Rattle.contract.proofs.Rans.{changed_refused, ran_changed, field_refused}
@@ -32,25 +34,23 @@ use Rattle.reading.specs.Judging.{JudgedAll}
 use Rattle.reading.specs.Entering.{typed_first, related_first, AddedAll, TookAll}
 
 -- ALL OR NONE
-module _ {es : List Entered} {p : List ℕ} {k : ℕ} (j : JudgedAll p es k) where
-  pub none_took : (k ≡ 0 → ⊥) → TookAll es p (of_did (Refused k)) p
-  none_took z =
-      rw (refusing_is k z (refused k))
-      (record {
-        kept = λ _. (refl, refl);
-        numbered = j.numbered;
-        ledger = λ S h.
-            let e : changed (entries_refusal S es) S (entries_made S es) ≡ (refused k, S) =
-            ap (λ (n : ℕ). changed n S (entries_made S es)) (sym (j.is S h)) ∙ changed_refused k S (entries_made S es) z in
-            rw e (refl, h);
-      })
+module _ {es : List Entered} {p : List ℕ} where
+  pub none_took : (r : Refusal) → JudgedAll p es (number r) → TookAll es p (refused (number r)) p
+  none_took r j = record {
+    kept = λ _. (refl, refl);
+    numbered = j.numbered;
+    ledger = λ S h.
+        let e : changed (entries_refusal S es) S (entries_made S es) ≡ (refused (number r), S) =
+        ap (λ (n : ℕ). changed n S (entries_made S es)) (sym (j.is S h)) ∙ changed_refused (number r) S (entries_made S es) (number_some r) in
+        rw e (refl, h);
+  }
 
-  pub all_took : {q : List ℕ} → k ≡ 0 → AddedAll es p q → TookAll es p (of_did Done) q
-  all_took z w = record {
+  pub all_took : {q : List ℕ} → JudgedAll p es 0 → AddedAll es p q → TookAll es p done q
+  all_took j w = record {
     kept = λ n. absurd (n refl);
     numbered = zero_numbered;
     ledger = λ S h.
-        let none : entries_refusal S es ≡ 0 = sym (j.is S h) ∙ z in
+        let none : entries_refusal S es ≡ 0 = sym (j.is S h) in
         rw (changed_done (entries_refusal S es) S (entries_made S es) none) (refl, w.is S h none);
   }
 
@@ -79,14 +79,19 @@ module _ {K : Kind} {say : List Entry → List Entered} (Y : Saying K say) (s : 
 accepted_form : {K : Kind} {s places : List ℕ} {count : ℕ} → Accepted K s places count → form_of (said K s) ≡ 0
 accepted_form a = ap form_of a.is
 
+-- and one that isn't by the number of its fault
+unread_form : (d : Said) (f : Fault) → d ≡ Unread (fault_number f) → d ≡ Unread (number (refusal_of f))
+unread_form d Malformed e = e
+unread_form d TooDeep e = e
+
 module _ {p : List ℕ} (o : Open p) (s : Bytes) where
   -- TYPES
-  pub types_unread : {n : ℕ} → said Types s ≡ Unread n → Ran (Changes (ReadTypes s)) p (of_did (Refused n)) p
+  pub types_unread : (f : Fault) → said Types s ≡ Unread (fault_number f) → Ran (Changes (ReadTypes s)) p (refused (number (refusal_of f))) p
   unfolding read_types_refusal
-  types_unread {n} e =
-      let z = unread_some Types s n e in
-      field_refused p o (ReadTypes s) n z
-      (λ S. ap (λ (d : Said). first (form_of d ∷ entries_refusal S (types_in s) ∷ [])) e ∙ first_met n _ z)
+  types_unread f e =
+      let r = refusal_of f in
+      field_refused p o (ReadTypes s) r
+      (λ S. ap (λ (d : Said). first (form_of d ∷ entries_refusal S (types_in s) ∷ [])) (unread_form _ f e) ∙ first_met (number r) _ (number_some r))
 
   pub types_ran : {places : List ℕ} {count : ℕ} → Accepted Types s places count → {a : Answer} {q : List ℕ} → length q ≡ length p →
       TookAll (typed_first s) p a q → Ran (Changes (ReadTypes s)) p a q
@@ -95,25 +100,27 @@ module _ {p : List ℕ} (o : Open p) (s : Bytes) where
       read_ran types_saying s (ReadTypes s) (λ S. first_unmet (form_of (said Types s)) _ (accepted_form y) ∙ first_one _) (λ S. refl) o
 
   -- RELATIONSHIPS
-  module _ (source : Bytes) {k : ℕ} (es : k ≡ source_field source) where
-    pub source_refused : (k ≡ 0 → ⊥) → Ran (Changes (ReadRelationships source s)) p (of_did (Refused k)) p
+  module _ (source : Bytes) where
+    pub source_refused : (r : Refusal) → number r ≡ source_field source → Ran (Changes (ReadRelationships source s)) p (refused (number r)) p
     unfolding read_relationships_refusal
-    source_refused z =
-        field_refused p o (ReadRelationships source s) k z (λ S. first_met (source_field source) _ (λ y. z (es ∙ y)) ∙ sym es)
+    source_refused r e =
+        field_refused p o (ReadRelationships source s) r (λ S. first_met (source_field source) _ (λ y. number_some r (e ∙ y)) ∙ sym e)
 
-    pub relationships_unread : k ≡ 0 → {n : ℕ} → said Relationships s ≡ Unread n →
-        Ran (Changes (ReadRelationships source s)) p (of_did (Refused n)) p
-    unfolding read_relationships_refusal
-    relationships_unread y {n} e =
-        let z = unread_some Relationships s n e in
-        field_refused p o (ReadRelationships source s) n z
-        (λ S. first_unmet (source_field source) _ (sym es ∙ y)
-        ∙ ap (λ (d : Said). first (form_of d ∷ entries_refusal S (relationships_in source s) ∷ [])) e ∙ first_met n _ z)
+    module _ (es : 0 ≡ source_field source) where
+      pub relationships_unread : (f : Fault) → said Relationships s ≡ Unread (fault_number f) →
+          Ran (Changes (ReadRelationships source s)) p (refused (number (refusal_of f))) p
+      unfolding read_relationships_refusal
+      relationships_unread f e =
+          let r = refusal_of f in
+          field_refused p o (ReadRelationships source s) r
+          (λ S. first_unmet (source_field source) _ (sym es)
+          ∙ ap (λ (d : Said). first (form_of d ∷ entries_refusal S (relationships_in source s) ∷ [])) (unread_form _ f e)
+          ∙ first_met (number r) _ (number_some r))
 
-    pub relationships_ran : k ≡ 0 → {places : List ℕ} {count : ℕ} → Accepted Relationships s places count → {a : Answer} {q : List ℕ} →
-        length q ≡ length p → TookAll (related_first source s) p a q → Ran (Changes (ReadRelationships source s)) p a q
-    unfolding read_relationships_refusal
-    relationships_ran z y =
-        read_ran (relationships_saying source) s (ReadRelationships source s)
-        (λ S. first_unmet (source_field source) _ (sym es ∙ z) ∙ first_unmet (form_of (said Relationships s)) _ (accepted_form y) ∙ first_one _)
-        (λ S. refl) o
+      pub relationships_ran : {places : List ℕ} {count : ℕ} → Accepted Relationships s places count → {a : Answer} {q : List ℕ} →
+          length q ≡ length p → TookAll (related_first source s) p a q → Ran (Changes (ReadRelationships source s)) p a q
+      unfolding read_relationships_refusal
+      relationships_ran y =
+          read_ran (relationships_saying source) s (ReadRelationships source s)
+          (λ S. first_unmet (source_field source) _ (sym es) ∙ first_unmet (form_of (said Relationships s)) _ (accepted_form y) ∙ first_one _)
+          (λ S. refl) o

@@ -9,16 +9,16 @@ use native.Mathlib.Omega.{arith}
 use lib.Dec.{eqb}
 use lib.ListN.{take}
 use borrow.Author.Tests.{eqb-true, eqb-false}
+use Rattle.std.specs.Prelude.{Option as Optional, Some, None, Result, Ok, Err}
+use Rattle.output.specs.declared.refusals.Refusal.{Refusal}
 use Rattle.markup.specs.Entries.{Entry, SaysDefault, SaysOverride, SaysRelationship}
-use Rattle.markup.specs.EntryPlaces.{says_typed}
+use Rattle.markup.specs.EntryPlaces.{mode_number, says_typed}
 use Rattle.markup.specs.PiecePlaces.{entry_in}
 use Rattle.markup.specs.FieldPlaces.{short_typed, short_related, typed_in, related_in, TypedAt, RelatedAt}
 use Rattle.markup.specs.declared.entries.Kind.{Kind}
 use Rattle.markup.specs.declared.entries.Kind.TheVariants.{Types, Relationships}
 use Rattle.markup.specs.declared.fields.TypedFields.{TypedFields}
-use Rattle.markup.specs.declared.fields.TypedFields.TheVariants.{Typing, NotTyped}
 use Rattle.markup.specs.declared.fields.RelatedFields.{RelatedFields}
-use Rattle.markup.specs.declared.fields.RelatedFields.TheVariants.{Relating, NotRelated}
 use Rattle.model.specs.Sets.{Bytes}
 use Rattle.model.specs.Package.{State}
 use Rattle.model.specs.Reading.{Entered, ADefault, AnOverride, ARelationship, types_said, relationships_said, entry_refusal}
@@ -27,8 +27,6 @@ use Rattle.model.proofs.FieldCuts.{default_cut, override_cut, relationship_cut, 
 use Rattle.model.proofs.EntryPuts.{defaults_put, overrides_put, relationships_put}
 use Rattle.reading.specs.Judging.{a_default, an_override, a_relationship, fields_of, TakenAs, JudgedAs, JudgedAt}
 use Rattle.reading.specs.Entering.{one_of, typed_at, related_at}
-use Rattle.reading.specs.declared.shadow.Judged.{Judged}
-use Rattle.reading.specs.declared.shadow.Judged.TheVariants as judged
 use Rattle.reading.proofs.EnteredFields.{typed_as, typed_none, related_none}
 
 -- ALIKE: the fields of both have one refusal, and where that is none they are one entry
@@ -50,10 +48,10 @@ refused_alike U x y l = go (eqb (fields_of x) 0) refl
         let z = eqb-false (fields_of x) 0 e in
         field_refused U x z ∙ l.fields ∙ sym (field_refused U y (λ f. z (l.fields ∙ f)))
 
-judged_alike : (K : Kind) (source b m n : List ℕ) (room : ℕ) (x y : Entered) → Alike x y → (r : Judged) →
+judged_alike : (K : Kind) (source b m n : List ℕ) (room : ℕ) (x y : Entered) → Alike x y → (r : Result ℕ Refusal) →
     JudgedAs K source b m n room x r → JudgedAs K source b m n room y r
-judged_alike K source b m n room x y l (judged.Takes size) w = subst (λ (e : Entered). TakenAs K source b m n room e size) (l.one w.fielded) w
-judged_alike K source b m n room x y l (judged.Refused k) w = record {
+judged_alike K source b m n room x y l (Ok size) w = subst (λ (e : Entered). TakenAs K source b m n room e size) (l.one w.fielded) w
+judged_alike K source b m n room x y l (Err k) w = record {
   numbered = w.numbered;
   some = w.some;
   is = λ T t S U h u. sym (refused_alike U x y l) ∙ w.is T t S U h u;
@@ -86,17 +84,18 @@ typed_alike (some (SaysOverride u v)) false x y h e g =
 typed_alike (some (SaysOverride u v)) true x y h e g = let z : ◌≡◌ {A = ℕ} 0 1 = cc in absurd (omega arith)
 typed_alike (some (SaysRelationship i t m u)) d x y h e g = absurd (none-ne-some _ (sym h))
 
-module _ {s : List ℕ} {at : ℕ} {key media : List ℕ} {r : TypedFields} (t : TypedAt s at key media r) {b m n : List ℕ} {room : ℕ} where
+module _ {s : List ℕ} {at : ℕ} {key media : List ℕ} {r : Optional TypedFields} (t : TypedAt s at key media r) {b m n : List ℕ} {room : ℕ} where
   -- the entry that the arrays hold was judged, so the one that is said was
-  pub typed_judged : {d c : Bool} {i j : ℕ} → r ≡ Typing d i j → d ≡ c → (a : Judged) → JudgedAs Types [] b m n room (typed_as c (take i key) (take j media)) a →
+  pub typed_judged : {v : TypedFields} {c : Bool} → r ≡ Some v → v.default ≡ c → (a : Result ℕ Refusal) →
+      JudgedAs Types [] b m n room (typed_as c (take v.key key) (take v.media media)) a →
       JudgedAt Types [] b m n room (typed_at s at) a
-  typed_judged {d} {c} {i} {j} e ec a w = record {
-    is = λ x g. judged_alike Types [] b m n room (typed_as c (take i key) (take j media)) x
-        (typed_alike (entry_in Types s at) c (take i key) (take j media)
-        (ap (λ (z : Bool). some (says_typed z (take i key) (take j media))) (sym ec) ∙ ap (typed_in key media) (sym e) ∙ t.is) x g) a w;
+  typed_judged {v} {c} e ec a w = record {
+    is = λ x g. judged_alike Types [] b m n room (typed_as c (take v.key key) (take v.media media)) x
+        (typed_alike (entry_in Types s at) c (take v.key key) (take v.media media)
+        (ap (λ (z : Bool). some (says_typed z (take v.key key) (take v.media media))) (sym ec) ∙ ap (typed_in key media) (sym e) ∙ t.is) x g) a w;
   }
 
-  pub typed_missing : r ≡ NotTyped → (a : Judged) → JudgedAt Types [] b m n room (typed_at s at) a
+  pub typed_missing : r ≡ None → (a : Result ℕ Refusal) → JudgedAt Types [] b m n room (typed_at s at) a
   typed_missing e a = record { is = λ x g. typed_none (entry_in Types s at) (ap (typed_in key media) (sym e) ∙ t.is) x g }
 
 -- RELATIONSHIPS, in the same way
@@ -123,16 +122,17 @@ related_alike source (some (SaysRelationship i t k u)) x y mode w h e g =
           ap₂ (λ (a b : Bytes). a_relationship source a b k (take 256 u)) q.0 q.1 ∙ ap (a_relationship source i t k) q.2;
     }))
 
-module _ {s : List ℕ} {at : ℕ} {id iri target : List ℕ} {r : RelatedFields} (t : RelatedAt s at id iri target r) (source : Bytes) {b m n : List ℕ} {room : ℕ} where
-  pub related_judged : {i j mode l : ℕ} → r ≡ Relating i j mode l → (a : Judged) →
-      JudgedAs Relationships source b m n room (a_relationship source (take i id) (take j iri) mode (take l target)) a →
+module _ {s : List ℕ} {at : ℕ} {id iri target : List ℕ} {r : Optional RelatedFields} (t : RelatedAt s at id iri target r) (source : Bytes) {b m n : List ℕ} {room : ℕ} where
+  pub related_judged : {v : RelatedFields} {mode : ℕ} → r ≡ Some v → mode ≡ mode_number v.mode → (a : Result ℕ Refusal) →
+      JudgedAs Relationships source b m n room (a_relationship source (take v.id id) (take v.iri iri) mode (take v.target target)) a →
       JudgedAt Relationships source b m n room (related_at source s at) a
-  related_judged {i} {j} {mode} {l} e a w = record {
-    is = λ x g. judged_alike Relationships source b m n room (a_relationship source (take i id) (take j iri) mode (take l target)) x
-        (related_alike source (entry_in Relationships s at) (take i id) (take j iri) mode (take l target) (ap (related_in id iri target) (sym e) ∙ t.is) x g) a w;
+  related_judged {v} {mode} e q a w = record {
+    is = λ x g. judged_alike Relationships source b m n room (a_relationship source (take v.id id) (take v.iri iri) (mode_number v.mode) (take v.target target)) x
+        (related_alike source (entry_in Relationships s at) (take v.id id) (take v.iri iri) (mode_number v.mode) (take v.target target) (ap (related_in id iri target) (sym e) ∙ t.is) x g) a
+        (subst (λ (k : ℕ). JudgedAs Relationships source b m n room (a_relationship source (take v.id id) (take v.iri iri) k (take v.target target)) a) q w);
   }
 
-  pub related_missing : r ≡ NotRelated → (a : Judged) → JudgedAt Relationships source b m n room (related_at source s at) a
+  pub related_missing : r ≡ None → (a : Result ℕ Refusal) → JudgedAt Relationships source b m n room (related_at source s at) a
   related_missing e a = record {
     is = λ x g. related_none source (entry_in Relationships s at) (ap (related_in id iri target) (sym e) ∙ t.is) x g;
   }

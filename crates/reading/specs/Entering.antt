@@ -1,12 +1,13 @@
 -- The entries of a stream at their places, and what the package holds when they are put in. These are promises of inner functions.
 -- Assumes nothing.
-use Rattle.std.specs.Prelude.{ℕ, ◌≡◌, List, [], ◌∷◌, take}
+use Rattle.std.specs.Prelude.{ℕ, ◌≡◌, List, [], ◌∷◌, min, length, take}
 use Rattle.std.proofs.Math.Option.{Option, none, some}
 use Rattle.output.specs.Answers.{Answer}
 use Rattle.markup.specs.Entries.{Entry}
 use Rattle.markup.specs.Streams.{said, entries_of}
 use Rattle.markup.specs.PiecePlaces.{entry_in}
-use Rattle.markup.specs.FormPlaces.{place_count}
+use Rattle.markup.specs.FormPlaces.{place_count, Accepted}
+use Rattle.markup.specs.declared.entries.Kind.{Kind}
 use Rattle.markup.specs.declared.entries.Kind.TheVariants.{Types, Relationships}
 use Rattle.model.specs.Sets.{Bytes}
 use Rattle.model.specs.Package.{State}
@@ -32,6 +33,14 @@ typed_first s = types_said (take place_count (entries_of (said Types s)))
 
 abbrev pub related_first : Bytes → Bytes → List Entered
 related_first source s = relationships_said source (take place_count (entries_of (said Relationships s)))
+
+-- these are the places that were noted in an array for an accepted stream of so many entries
+pub record Placed (K : Kind) (s places : List ℕ) : Type 0 where
+  pub array : List ℕ
+  pub size : length array ≡ place_count
+  pub count : ℕ
+  pub accepted : Accepted K s array count
+  pub is : places ≡ take (min count place_count) array
 
 -- PUT IN. The fields of the entry, if there is one, are accepted
 abbrev pub FieldedAt : List Entered → Type 0

@@ -1,6 +1,8 @@
 -- What is said of the entries of a stream before one of them is put in. These are promises of inner functions.
 -- Assumes nothing.
-use Rattle.std.specs.Prelude.{ℕ, ◌-◌, ◌≤◌, ◌≡◌, List, [], ◌∷◌}
+use Rattle.std.specs.Prelude.{ℕ, ◌-◌, ◌≤◌, ◌≡◌, List, [], ◌∷◌, Result, Ok, Err}
+use Rattle.output.specs.declared.refusals.Refusal.{Refusal}
+use Rattle.output.specs.Refusals.{number}
 use Rattle.markup.specs.declared.entries.Kind.{Kind}
 use Rattle.model.specs.Sets.{Bytes, Each}
 use Rattle.model.specs.Package.{State, default_kind, override_kind, relationship_kind}
@@ -8,8 +10,6 @@ use Rattle.model.specs.Reading.{Entered, ADefault, AnOverride, ARelationship, en
 use Rattle.model.specs.Calls.{Numbered}
 use Rattle.contract.specs.Holds.{Holds}
 use Rattle.reading.specs.Notes.{shade, Notes, Beyond}
-use Rattle.reading.specs.declared.shadow.Judged.{Judged}
-use Rattle.reading.specs.declared.shadow.Judged.TheVariants.{Takes, Refused}
 
 -- entries by their fields
 abbrev pub a_default : Bytes → Bytes → Entered
@@ -43,12 +43,12 @@ pub record StoppedAs (K : Kind) (source : Bytes) (b m : List ℕ) (room : ℕ) (
   pub some : k ≡ 0 → ⊥
   pub is : (T : State) → Notes K m T → (S U : State) → Holds b S → Beyond source S T U room → entry_refusal U e ≡ k
 
-abbrev pub JudgedAs : Kind → Bytes → List ℕ → List ℕ → List ℕ → ℕ → Entered → Judged → Type 0
-JudgedAs K source b m n room e (Takes size) = TakenAs K source b m n room e size
-JudgedAs K source b m n room e (Refused k) = StoppedAs K source b m room e k
+abbrev pub JudgedAs : Kind → Bytes → List ℕ → List ℕ → List ℕ → ℕ → Entered → Result ℕ Refusal → Type 0
+JudgedAs K source b m n room e (Ok size) = TakenAs K source b m n room e size
+JudgedAs K source b m n room e (Err r) = StoppedAs K source b m room e (number r)
 
 -- the entry, if there is one
-pub record JudgedAt (K : Kind) (source : Bytes) (b m n : List ℕ) (room : ℕ) (es : List Entered) (r : Judged) : Type 0 where
+pub record JudgedAt (K : Kind) (source : Bytes) (b m n : List ℕ) (room : ℕ) (es : List Entered) (r : Result ℕ Refusal) : Type 0 where
   pub is : (e : Entered) → es ≡ e ∷ [] → JudgedAs K source b m n room e r
 
 -- ALL OF THEM: k is the first refusal, 0 for none

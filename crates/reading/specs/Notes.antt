@@ -1,10 +1,12 @@
 -- The shadow: a package of the call's own, where the entries of a stream are noted while they are judged. These are promises of inner functions.
 -- Assumes nothing.
-use Rattle.std.specs.Prelude.{ℕ, ◌+◌, ◌-◌, ◌*◌, ◌≤◌, ◌≡◌, Bool, ◌||◌, List, [], ◌∷◌, ltb, length}
+use Rattle.std.specs.Prelude.{ℕ, ◌+◌, ◌-◌, ◌*◌, ◌≤◌, ◌≡◌, Bool, ◌||◌, List, [], ◌∷◌, ltb, length, Result, Ok, Err}
 use Rattle.chars.specs.Bytes.{ascii}
+use Rattle.output.specs.declared.refusals.Refusal.{Refusal}
+use Rattle.output.specs.Refusals.{number}
 use Rattle.markup.specs.declared.entries.Kind.{Kind}
 use Rattle.markup.specs.declared.entries.Kind.TheVariants.{Types, Relationships}
-use Rattle.model.specs.Sets.{Bytes, held, lookup, insert}
+use Rattle.model.specs.Sets.{Bytes, Key, held, lookup, insert}
 use Rattle.model.specs.Fields.{when, first}
 use Rattle.model.specs.Package.{State, Default, Override, Relationship, Kind as SetKind, default_kind, override_kind, relationship_kind, charge}
 use Rattle.model.specs.Reading.{Entered, ADefault, AnOverride, ARelationship}
@@ -15,9 +17,7 @@ use Rattle.store.specs.Packages.{Sound, Became}
 use Rattle.contract.specs.Rows.{row_key}
 use Rattle.contract.specs.Holds.{Holds}
 use Rattle.contract.specs.Searches.{Ordered}
-use Rattle.contract.specs.Entries.{row_count, row_refusal}
-use Rattle.reading.specs.declared.shadow.Judged.{Judged}
-use Rattle.reading.specs.declared.shadow.Judged.TheVariants as judged
+use Rattle.contract.specs.Entries.{Taken, row_count, row_refusal}
 
 -- WHAT IS NOTED of an entry: its key, and fields that are the same for all of its set. (The entries of one reading have one source.)
 abbrev pub shade_default : Default → Default
@@ -80,6 +80,12 @@ pub record LeftIn (b : List ℕ) (set limit r : ℕ) : Type 0 where
 abbrev pub note_refusal : List ℕ → Bool → ℕ → ℕ → ℕ → Row → ℕ
 note_refusal m taken left room size x = first (when taken 10 ∷ row_refusal m (when (ltb room size) 15) left x ∷ [])
 
-abbrev pub NotedRow : List ℕ → List ℕ → Bool → ℕ → ℕ → ℕ → Row → Judged → Type 0
-NotedRow m n taken left room size x (judged.Takes k) = (k ≡ size) × (Ordered m → (note_refusal m taken left room size x ≡ 0) × Became m n (insert row_key x (rows_of m)))
-NotedRow m n taken left room size x (judged.Refused k) = Numbered k × (k ≡ 0 → ⊥) × (Ordered m → k ≡ note_refusal m taken left room size x)
+abbrev pub NotedRow : List ℕ → List ℕ → Bool → ℕ → ℕ → ℕ → Row → Result ℕ Refusal → Type 0
+NotedRow m n taken left room size x (Ok k) = (k ≡ size) × (Ordered m → (note_refusal m taken left room size x ≡ 0) × Became m n (insert row_key x (rows_of m)))
+NotedRow m n taken left room size x (Err r) = Numbered (number r) × (number r ≡ 0 → ⊥) × (Ordered m → number r ≡ note_refusal m taken left room size x)
+
+-- the same, of an entry whose key k is sought in the package b
+pub record NotedBeside (b m n : List ℕ) (k : Key) (left room size : ℕ) (x : Row) (r : Result ℕ Refusal) : Type 0 where
+  pub taken : Bool
+  pub sought : Taken b k taken
+  pub noted : NotedRow m n taken left room size x r

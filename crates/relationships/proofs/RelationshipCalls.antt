@@ -11,7 +11,12 @@ use borrow.Author.Tests.{not-false, leb-true, le-leb, lt-leb}
 use Rattle.chars.specs.FoldedNames.{folded_size}
 use Rattle.names.specs.Types.{identifier}
 use Rattle.names.specs.Iris.{package_iri}
-use Rattle.targets.specs.Targets.{source_refusal, target_refusal, target_refusal_from}
+use Rattle.output.specs.Refusals.{number}
+use Rattle.output.specs.declared.refusals.Refusal.{Refusal}
+use Rattle.output.proofs.Answering.{number_some}
+use Rattle.targets.specs.Targets.{source_refusal, target_refusal, target_refusal_from, mode_number}
+use Rattle.targets.specs.declared.targets.TargetMode.{TargetMode}
+use Rattle.targets.specs.declared.targets.TargetMode.TheVariants as mode
 use Rattle.model.specs.Sets.{Bytes}
 use Rattle.model.specs.Fields.{when, first, source_field, id_field, relationship_type_field, mode_field, target_field, relationship_fields}
 use Rattle.model.specs.Package.{relationship_key}
@@ -23,36 +28,39 @@ use Rattle.contract.proofs.FieldSizes.{source_size}
 use Rattle.contract.proofs.SetCalls.{Putting, Dropping}
 
 -- THE KEY
-module _ (s i : Bytes) (k : ℕ) (ek : k ≡ source_refusal s) where
-  pub key_source : (k ≡ 0 → ⊥) → k ≡ first (source_field s ∷ id_field i ∷ [])
-  key_source z = ek ∙ sym (first_met (source_refusal s) (id_field i ∷ []) (λ e. z (ek ∙ e)))
+module _ (s i : Bytes) where
+  pub key_source : (r : Refusal) → number r ≡ source_refusal s → number r ≡ first (source_field s ∷ id_field i ∷ [])
+  key_source r e = e ∙ sym (first_met (source_refusal s) (id_field i ∷ []) (λ z. number_some r (e ∙ z)))
 
-  module _ (z : k ≡ 0) (y : Bool) (ey : y ≡ identifier i) where
+  module _ (e : 0 ≡ source_refusal s) (y : Bool) (ey : y ≡ identifier i) where
     id_is : (t : Bool) → y ≡ t → first (source_field s ∷ id_field i ∷ []) ≡ when (not t) 8
-    id_is t e =
-        first_unmet (source_refusal s) (id_field i ∷ []) (sym ek ∙ z) ∙ first_one (id_field i)
-        ∙ ap (λ (t : Bool). when (not t) 8) (sym ey ∙ e)
+    id_is t f =
+        first_unmet (source_refusal s) (id_field i ∷ []) (sym e) ∙ first_one (id_field i)
+        ∙ ap (λ (t : Bool). when (not t) 8) (sym ey ∙ f)
 
     pub key_fine : y ≡ true → 0 ≡ first (source_field s ∷ id_field i ∷ [])
-    key_fine e = sym (id_is true e)
+    key_fine f = sym (id_is true f)
 
     pub key_unidentified : y ≡ false → 8 ≡ first (source_field s ∷ id_field i ∷ [])
-    key_unidentified e = sym (id_is false e)
+    key_unidentified f = sym (id_is false f)
 
-pub key_fits : (s i : Bytes) (k : ℕ) → k ≡ first (source_field s ∷ id_field i ∷ []) → k ≡ 0 → length s ≤ folded_size
-key_fits s i k ek z = omega (arith, (source_size s (all_none _ (sym ek ∙ z)).0).1)
+pub key_fits : (s i : Bytes) → 0 ≡ first (source_field s ∷ id_field i ∷ []) → length s ≤ folded_size
+key_fits s i e = omega (arith, (source_size s (all_none _ (sym e)).0).1)
 
 -- THE FIELDS
+mode_few : (x : TargetMode) → mode_number x ≤ 1
+mode_few mode.Internal = omega arith
+mode_few mode.External = omega arith
+
 module _ (s i v : Bytes) (m : ℕ) (t : Bytes) where
   abbrev others : List ℕ
   others = relationship_type_field v ∷ mode_field m ∷ target_field m s t ∷ []
 
-  -- k is the source's refusal
-  pub fields_source : (k : ℕ) → k ≡ source_field s → (k ≡ 0 → ⊥) → k ≡ relationship_fields s i v m t
+  pub fields_source : (r : Refusal) → number r ≡ source_field s → number r ≡ relationship_fields s i v m t
   unfolding relationship_fields
-  fields_source k ek z = ek ∙ sym (first_met (source_field s) (id_field i ∷ others) (λ e. z (ek ∙ e)))
+  fields_source r e = e ∙ sym (first_met (source_field s) (id_field i ∷ others) (λ z. number_some r (e ∙ z)))
 
-  -- it has none; x tells of the id
+  -- the source has no refusal; x tells of the id
   module _ (z : source_field s ≡ 0) (x : Bool) (ex : x ≡ identifier i) where
     sourced : relationship_fields s i v m t ≡ first (when (not x) 8 ∷ others)
     unfolding relationship_fields
@@ -84,15 +92,15 @@ module _ (s i v : Bytes) (m : ℕ) (t : Bytes) where
             sym (typed ∙ ap (λ (b : Bool). first (when (not b) 8 ∷ target_field m s t ∷ [])) (lt-leb m 1 l)
             ∙ first_met 8 (target_field m s t ∷ []) (λ e. omega arith))
 
-        -- j is the mode as it was handed on
-        pub fields_target : (j r : ℕ) → m ≡ j → j ≤ 1 → r ≡ target_refusal_from j s t → r ≡ relationship_fields s i v m t
-        fields_target j r e l er =
+        -- x is the mode as it was read
+        pub fields_target : (x : TargetMode) (r : ℕ) → mode_number x ≡ m → r ≡ target_refusal_from (mode_number x) s t → r ≡ relationship_fields s i v m t
+        fields_target x r e er =
             let n = source_size s z in
-            let w : target_refusal_from j s t ≡ target_refusal m s t =
-            ap (λ (b : Bool). cond b (target_refusal j s t) 4) (le-leb (length s) 255 n.1)
-            ∙ ap (λ (i : ℕ). target_refusal i s t) (sym e) in
+            let w : target_refusal_from (mode_number x) s t ≡ target_refusal m s t =
+            ap (λ (b : Bool). cond b (target_refusal (mode_number x) s t) 4) (le-leb (length s) 255 n.1)
+            ∙ ap (λ (i : ℕ). target_refusal i s t) e in
             er ∙ w
-            ∙ sym (typed ∙ ap (λ (b : Bool). first (when (not b) 8 ∷ target_field m s t ∷ [])) (le-leb m 1 (omega arith))
+            ∙ sym (typed ∙ ap (λ (b : Bool). first (when (not b) 8 ∷ target_field m s t ∷ [])) (le-leb m 1 (omega (arith, mode_few x, e)))
             ∙ first_unmet 0 (target_field m s t ∷ []) refl ∙ first_one (target_field m s t))
 
   -- what accepted fields say

@@ -15,7 +15,12 @@ use Rattle.chars.specs.Bytes.{number_sign}
 use Rattle.chars.specs.Lists.{index_of}
 use Rattle.chars.proofs.Searches.{index_le}
 use Rattle.names.specs.Iris.{package_iri}
-use Rattle.output.specs.Answers.{Answer, answer, Text, filled}
+use Rattle.std.specs.Prelude.{Ok, Err}
+use Rattle.output.specs.Answers.{Answer, answer, refusing, Text, filled}
+use Rattle.output.specs.Refusals.{number}
+use Rattle.output.specs.declared.refusals.Refusal.{Refusal}
+use Rattle.output.specs.declared.refusals.Refusal.TheVariants.{NotHeld}
+use Rattle.output.specs.declared.refusals.Unwritten.TheVariants as unwritten
 use Rattle.iri.specs.References.{resolve}
 use Rattle.targets.specs.Targets.{resolve_path}
 use Rattle.pack.specs.Pack.{unfragmented, pack_iri}
@@ -23,7 +28,7 @@ use Rattle.output.specs.Sends.{Fitted}
 use Rattle.iri.specs.Scratch.{Reached}
 use Rattle.base.proofs.Lists.{length_take_few}
 use Rattle.names.proofs.Lengths.{package_few}
-use Rattle.output.proofs.Answering.{refusing_is, fitted_short, fitted_bytes, answer_kept}
+use Rattle.output.proofs.Answering.{number_some, fitted_short, fitted_bytes, answer_kept}
 use Rattle.model.specs.Sets.{Bytes, lookup}
 use Rattle.model.specs.Fields.{when, first, source_field, id_field, package_field}
 use Rattle.model.specs.Package.{relationship_kind, State, Relationship, relationship_key, key_of_relationship, group, is_part}
@@ -52,22 +57,22 @@ use Rattle.parts.proofs.TextAnswers.{text_numbered}
 use Rattle.relationships.specs.Resolutions.{of_resolution, LedTo, RowResolved}
 use Rattle.relationships.specs.declared.resolving.Resolution.TheVariants as resolution
 
--- WHAT IS ASKED FOR; k is the key's refusal
-module _ (s i b : Bytes) (k : ℕ) (ek : k ≡ first (source_field s ∷ id_field i ∷ [])) where
-  pub asked_key : (k ≡ 0 → ⊥) → k ≡ first (source_field s ∷ id_field i ∷ package_field b ∷ [])
-  asked_key z = ek ∙ sym (first_front (source_field s ∷ id_field i ∷ []) (package_field b ∷ []) (λ e. z (ek ∙ e)))
+-- WHAT IS ASKED FOR
+module _ (s i b : Bytes) where
+  pub asked_key : (r : Refusal) → number r ≡ first (source_field s ∷ id_field i ∷ []) → number r ≡ first (source_field s ∷ id_field i ∷ package_field b ∷ [])
+  asked_key r e = e ∙ sym (first_front (source_field s ∷ id_field i ∷ []) (package_field b ∷ []) (λ z. number_some r (e ∙ z)))
 
-  module _ (z : k ≡ 0) (y : Bool) (ey : y ≡ package_iri b) where
+  module _ (e : 0 ≡ first (source_field s ∷ id_field i ∷ [])) (y : Bool) (ey : y ≡ package_iri b) where
     base_is : (t : Bool) → y ≡ t → first (source_field s ∷ id_field i ∷ package_field b ∷ []) ≡ when (not t) 9
-    base_is t e =
-        first_past (source_field s ∷ id_field i ∷ []) (package_field b ∷ []) (sym ek ∙ z)
-        ∙ first_one (package_field b) ∙ ap (λ (t : Bool). when (not t) 9) (sym ey ∙ e)
+    base_is t f =
+        first_past (source_field s ∷ id_field i ∷ []) (package_field b ∷ []) (sym e)
+        ∙ first_one (package_field b) ∙ ap (λ (t : Bool). when (not t) 9) (sym ey ∙ f)
 
     pub asked_fine : y ≡ true → 0 ≡ first (source_field s ∷ id_field i ∷ package_field b ∷ [])
-    asked_fine e = sym (base_is true e)
+    asked_fine f = sym (base_is true f)
 
     pub asked_no_package : y ≡ false → 9 ≡ first (source_field s ∷ id_field i ∷ package_field b ∷ [])
-    asked_no_package e = sym (base_is false e)
+    asked_no_package f = sym (base_is false f)
 
 -- AN EXTERNAL TARGET; k is where the package IRI's fragment begins
 module _ (target base : Bytes) (lt : length target ≤ 255) (lb : length base ≤ 255) (k : ℕ) (ek : k ≡ 0 + index_of number_sign base) where
@@ -88,10 +93,10 @@ module _ (target base : Bytes) (lt : length target ≤ 255) (lb : length base �
     f' : Fitted out (resolve (unfragmented base) target) n out'
     f' = subst (λ (b : Bytes). Fitted out (resolve b target) n out') bare_is f
 
-    pub external_short : length out' < n → of_resolution (resolution.Short n) out' ≡ filled 3 out (Text (resolve (unfragmented base) target) (1 ∷ 0 ∷ []))
+    pub external_short : length out' < n → of_resolution (Err (unwritten.TooShort n)) out' ≡ filled 3 out (Text (resolve (unfragmented base) target) (1 ∷ 0 ∷ []))
     external_short s = let t = (resolve (unfragmented base) target) in fitted_short 3 (Text t (1 ∷ 0 ∷ [])) t (1 ∷ 0 ∷ []) out out' n refl f' l s
 
-    pub external_whole : n ≤ length out' → of_resolution (resolution.External n) out' ≡ filled 3 out (Text (resolve (unfragmented base) target) (1 ∷ 0 ∷ []))
+    pub external_whole : n ≤ length out' → of_resolution (Ok (resolution.External n)) out' ≡ filled 3 out (Text (resolve (unfragmented base) target) (1 ∷ 0 ∷ []))
     external_whole s = let t = (resolve (unfragmented base) target) in fitted_bytes 3 (Text t (1 ∷ 0 ∷ [])) t (1 ∷ 0 ∷ []) out out' n refl f' l s
 
 -- AN INTERNAL TARGET; the first k bytes of the scratch are its path
@@ -116,14 +121,14 @@ module _ (source target : Bytes) (ls : length source ≤ 255) (lt : length targe
     g : Fitted out T n out'
     g = subst (λ (p : Bytes). Fitted out (pack_iri base p) n out') path_is f
 
-    pub internal_short : length out' < n → LedTo b source target base out (of_resolution (resolution.Short n) out')
+    pub internal_short : length out' < n → LedTo b source target base out (of_resolution (Err (unwritten.TooShort n)) out')
     internal_short s = record {
       kept = λ _. g.short (omega arith);
       numbered = numbered 3 (omega arith) (omega arith);
       is = λ S h. fitted_short 3 (Text T (values S)) T (values S) out out' n refl g l s;
     }
 
-    pub internal_whole : n ≤ length out' → (y : Bool) → PartOf b (take k path) y → LedTo b source target base out (of_resolution (resolution.Internal n y) out')
+    pub internal_whole : n ≤ length out' → (y : Bool) → PartOf b (take k path) y → LedTo b source target base out (of_resolution (Ok (resolution.Internal n y)) out')
     internal_whole s y w = record {
       kept = λ z. absurd (z refl);
       numbered = zero_numbered;
@@ -138,7 +143,7 @@ module _ (b : List ℕ) (i : ℕ) (li : i < count_of b) (base out t : Bytes) (et
   unfolding relationship_row field_of
   target_is S h r e = et h.lies.sound li ∙ ap (λ (x : Row). field_of x 3) e
 
-  pub row_long_target : 255 < length t → RowResolved b i base out (of_resolution (resolution.Refused 13) out)
+  pub row_long_target : 255 < length t → RowResolved b i base out (refusing 3 NotHeld out)
   row_long_target l = record { kept = λ _. refl; numbered = numbered 13 (omega arith) (omega arith); is = λ S h r e f. absurd (omega (arith, target_size r (fielded r f), ap length (target_is S h r e))) }
 
   -- g is its tag
@@ -163,7 +168,7 @@ module _ (b : List ℕ) (i : ℕ) (li : i < count_of b) (base out t : Bytes) (et
       unfolding relationship_row field_of
       source_is S h r e = es h.lies.sound li ∙ ap (λ (x : Row). field_of x 0) e
 
-      pub row_long_source : 255 < length s → RowResolved b i base out (of_resolution (resolution.Refused 13) out)
+      pub row_long_source : 255 < length s → RowResolved b i base out (refusing 3 NotHeld out)
       row_long_source l = record {
         kept = λ _. refl;
         numbered = numbered 13 (omega arith) (omega arith);
@@ -180,27 +185,28 @@ module _ (b : List ℕ) (i : ℕ) (li : i < count_of b) (base out t : Bytes) (et
             w.is S h ∙ rw (m, ← target_is S h r e, ← source_is S h r e);
       }
 
--- THE CALL; k is the refusal of what it asks for
-module _ (p : List ℕ) (o : Open p) (s i base out : Bytes) (k : ℕ) (ek : k ≡ first (source_field s ∷ id_field i ∷ package_field base ∷ [])) where
-  pub resolve_refused : (k ≡ 0 → ⊥) → Ran (Prints (ResolveRelationship s i base) out) p (of_resolution (resolution.Refused k) out) p
+-- THE CALL
+module _ (p : List ℕ) (o : Open p) (s i base out : Bytes) where
+  pub resolve_refused : (r : Refusal) → number r ≡ first (source_field s ∷ id_field i ∷ package_field base ∷ [])
+      → Ran (Prints (ResolveRelationship s i base) out) p (refusing 3 r out) p
   unfolding printed filled
-  resolve_refused z =
-      rw (refusing_is k z (answer k (0 ∷ 0 ∷ 0 ∷ []) out))
-      (wrote p o (ResolveRelationship s i base) out (answer k (0 ∷ 0 ∷ 0 ∷ []) out) (subst Numbered (sym ek) (resolve_fields_numbered s i base)) (λ _. refl) (λ S h. rw (← ek, ne_eqb k 0 z)))
+  resolve_refused r e =
+      wrote p o (ResolveRelationship s i base) out (refusing 3 r out) (subst Numbered (sym e) (resolve_fields_numbered s i base)) (λ _. refl)
+      (λ S h. rw (← e, ne_eqb (number r) 0 (number_some r)))
 
-  module _ (z : k ≡ 0) where
+  module _ (e : 0 ≡ first (source_field s ∷ id_field i ∷ package_field base ∷ [])) where
     pub package_size : length base ≤ 255
-    package_size = package_few base (not-false (package_iri base) (unmet (not (package_iri base)) 9 (omega arith) (all_none _ (sym ek ∙ z)).1.1.0))
+    package_size = package_few base (not-false (package_iri base) (unmet (not (package_iri base)) 9 (omega arith) (all_none _ (sym e)).1.1.0))
 
     pub source_fits : length s ≤ folded_size
-    source_fits = omega (arith, (source_size s (all_none _ (sym ek ∙ z)).0).1)
+    source_fits = omega (arith, (source_size s (all_none _ (sym e)).0).1)
 
     abbrev sought : State → Option Relationship
     sought S = lookup key_of_relationship (relationship_key s i) S.relationships
 
     printed_is : (S : State) (x : Option Relationship) → sought S ≡ x → printed S (length out) (ResolveRelationship s i base) ≡ resolved S base x
     unfolding printed
-    printed_is S x e = rw (← ek, eq-eqb k 0 z, e)
+    printed_is S x f = rw (← e, f)
 
     -- r is the row of the key
     module _ (r m : ℕ) (er : Sought p (key_in 3 s 0 i) r) (em : m ≡ count_of p) where
@@ -208,7 +214,7 @@ module _ (p : List ℕ) (o : Open p) (s i base out : Bytes) (k : ℕ) (ek : k �
       unfolding second
       row_is S h = sym (found_row relationship_rows relationship_rows_lem p S h (relationship_key s i))
 
-      pub resolve_missing : m ≤ r → Ran (Prints (ResolveRelationship s i base) out) p (of_resolution (resolution.Refused 13) out) p
+      pub resolve_missing : m ≤ r → Ran (Prints (ResolveRelationship s i base) out) p (refusing 3 NotHeld out) p
       unfolding filled resolved
       resolve_missing l =
           wrote p o (ResolveRelationship s i base) out (answer 13 (0 ∷ 0 ∷ 0 ∷ []) out) (numbered 13 (omega arith) (omega arith)) (λ _. refl)

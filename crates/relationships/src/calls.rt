@@ -2,60 +2,61 @@
 ghost use Rattle.std.specs.Prelude.{◌≡◌, [], ◌∷◌};
 ghost use Rattle.model.specs.Fields.{first, source_field, id_field, relationship_fields};
 ghost use Rattle.model.specs.Calls.{Call, Change};
-ghost use Rattle.contract.specs.Answers.{of_did};
+ghost use Rattle.output.specs.Refusals.{number_of};
+ghost use Rattle.contract.specs.Answers.{of_done};
 ghost use Rattle.contract.specs.Ran.{Ran};
 
-use contract::answers::Did;
 use contract::entries::{drop_row, put_row};
-use contract::gate::opened;
+use contract::gate::check_package;
 use contract::{RELATIONSHIP_LIMIT, RELATIONSHIP_TAG, RELATIONSHIPS};
 use names::iris::is_package_iri;
 use names::types::is_id;
-use targets::targets::{source_refusal, target_refusal};
+use output::refusals::Refusal;
+use targets::targets::{TargetMode, check_source, check_target};
 
-// The refusal of a relationship's key: its source, then its id.
-pub fn key_refusal(source: &[u8], id: &[u8]) -> u8
-    ensures { result ≡ first (source_field source.now ∷ id_field id.now ∷ []) }
+// Judges a relationship's key: its source, then its id.
+pub fn check_key(source: &[u8], id: &[u8]) -> Result<(), Refusal>
+    ensures { number_of result ≡ first (source_field source.now ∷ id_field id.now ∷ []) }
 {
-    let k = source_refusal(source);
-    if k != 0 {
-        return k;
-    }
+    check_source(source)?;
     if is_id(id) {
-        return 0;
+        return Ok(());
     }
-    8
+    Err(Refusal::BadRelationshipField)
 }
 
-// The refusal of a relationship's fields where its source has none.
-pub fn own_refusal(source: &[u8], id: &[u8], kind: &[u8], mode: u64, target: &[u8]) -> u8
+// Judges a relationship's fields, whose source is one.
+pub fn check_own(
+    source: &[u8],
+    id: &[u8],
+    kind: &[u8],
+    mode: u64,
+    target: &[u8],
+) -> Result<(), Refusal>
     requires { source_field source.now ≡ 0 }
-    ensures { result ≡ relationship_fields source.now id.now kind.now mode target.now }
+    ensures { number_of result ≡ relationship_fields source.now id.now kind.now mode target.now }
 {
     if !is_id(id) {
-        return 8;
+        return Err(Refusal::BadRelationshipField);
     }
     if !is_package_iri(kind) {
-        return 8;
+        return Err(Refusal::BadRelationshipField);
     }
-    if mode == 0 {
-        return target_refusal(0, source, target);
-    }
-    if mode == 1 {
-        return target_refusal(1, source, target);
-    }
-    8
+    check_target(TargetMode::try_from(mode)?, source, target)
 }
 
-// The refusal of a relationship's fields.
-fn fields_refusal(source: &[u8], id: &[u8], kind: &[u8], mode: u64, target: &[u8]) -> u8
-    ensures { result ≡ relationship_fields source.now id.now kind.now mode target.now }
+// Judges a relationship's fields.
+fn check_fields(
+    source: &[u8],
+    id: &[u8],
+    kind: &[u8],
+    mode: u64,
+    target: &[u8],
+) -> Result<(), Refusal>
+    ensures { number_of result ≡ relationship_fields source.now id.now kind.now mode target.now }
 {
-    let k = source_refusal(source);
-    if k != 0 {
-        return k;
-    }
-    own_refusal(source, id, kind, mode, target)
+    check_source(source)?;
+    check_own(source, id, kind, mode, target)
 }
 
 pub fn put_relationship(
@@ -65,20 +66,14 @@ pub fn put_relationship(
     kind: &[u8],
     mode: u64,
     target: &[u8],
-) -> Did
-    ensures { Ran (Call.Changes (Change.PutRelationship source.now id.now kind.now mode target.now)) pkg.old (of_did result) pkg.new }
+) -> Result<(), Refusal>
+    ensures { Ran (Call.Changes (Change.PutRelationship source.now id.now kind.now mode target.now)) pkg.old (of_done result) pkg.new }
 {
-    let k = opened(pkg);
-    if k != 0 {
-        return Did::Refused(k);
-    }
-    let k = fields_refusal(source, id, kind, mode, target);
-    if k != 0 {
-        return Did::Refused(k);
-    }
+    check_package(pkg)?;
+    check_fields(source, id, kind, mode, target)?;
     put_row(
         pkg,
-        0,
+        Ok(()),
         RELATIONSHIP_LIMIT,
         RELATIONSHIP_TAG + mode as usize,
         source,
@@ -88,16 +83,10 @@ pub fn put_relationship(
     )
 }
 
-pub fn drop_relationship(pkg: &mut [u8], source: &[u8], id: &[u8]) -> Did
-    ensures { Ran (Call.Changes (Change.DropRelationship source.now id.now)) pkg.old (of_did result) pkg.new }
+pub fn drop_relationship(pkg: &mut [u8], source: &[u8], id: &[u8]) -> Result<(), Refusal>
+    ensures { Ran (Call.Changes (Change.DropRelationship source.now id.now)) pkg.old (of_done result) pkg.new }
 {
-    let k = opened(pkg);
-    if k != 0 {
-        return Did::Refused(k);
-    }
-    let k = key_refusal(source, id);
-    if k != 0 {
-        return Did::Refused(k);
-    }
+    check_package(pkg)?;
+    check_key(source, id)?;
     drop_row(pkg, RELATIONSHIPS, source, id)
 }

@@ -6,106 +6,68 @@
 ghost use Rattle.std.specs.Prelude.{◌≤◌, length, IfOk};
 
 use base::bytes::byte_at;
-use chars::search::find;
 use iri::references::resolve_reference;
-use output::writing::Written;
+use output::refusals::Unwritten;
 use pack::pack::{Resolved, compose, resolve_pack};
 use std::io;
 use std::io::{Print, Read};
 use targets::relationships::{relationships_part, source_of};
 use targets::targets::resolve_target;
 
-fn print_number(rt: &HostRuntime, n: usize) -> io::Result<()> {
-    print!(rt; "{n} ")
-}
-
 fn print_text(rt: &HostRuntime, out: &[u8], n: usize) -> io::Result<()> {
-    if n <= out.len() {
-        return rt.write_all(&out[..n]);
+    match out.get(..n) {
+        Some(text) => rt.write_all(text),
+        None => Ok(()),
     }
-    Ok(())
 }
 
-fn print_written(rt: &HostRuntime, w: Written, out: &[u8]) -> io::Result<()> {
+fn print_written(rt: &HostRuntime, w: Result<usize, Unwritten>, out: &[u8]) -> io::Result<()> {
     match w {
-        Written::Bytes(n) => {
-            print_number(rt, 0)?;
-            print_number(rt, n)?;
+        Ok(n) => {
+            print!(rt; "0 {n} ")?;
             print_text(rt, out, n)
         }
-        Written::Short(n) => {
-            print_number(rt, 3)?;
-            print_number(rt, n)
-        }
-        Written::Refused(k) => {
-            print_number(rt, k as usize)?;
-            print_number(rt, 0)
-        }
+        Err(Unwritten::TooShort(n)) => print!(rt; "3 {n} "),
+        Err(Unwritten::Refused(r)) => print!(rt; "{} 0 ", r.number()),
     }
 }
 
 fn print_found(rt: &HostRuntime, a: usize, b: usize, out: &[u8]) -> io::Result<()> {
-    print_number(rt, 0)?;
-    print_number(rt, a)?;
-    print_number(rt, b)?;
-    if a <= 1024 {
-        if b <= 1024 {
-            return print_text(rt, out, a + b);
-        }
+    print!(rt; "0 {a} {b} ")?;
+    match a.checked_add(b) {
+        Some(n) => print_text(rt, out, n),
+        None => Ok(()),
     }
-    Ok(())
 }
 
-fn print_resolved(rt: &HostRuntime, w: Resolved, out: &[u8]) -> io::Result<()> {
+fn print_resolved(rt: &HostRuntime, w: Result<Resolved, Unwritten>, out: &[u8]) -> io::Result<()> {
     match w {
-        Resolved::Found(a, b) => print_found(rt, a, b, out),
-        Resolved::Short(n) => {
-            print_number(rt, 3)?;
-            print_number(rt, n)?;
-            print_number(rt, 0)
-        }
-        Resolved::Refused(k) => {
-            print_number(rt, k as usize)?;
-            print_number(rt, 0)?;
-            print_number(rt, 0)
-        }
+        Ok(found) => print_found(rt, found.package, found.part, out),
+        Err(Unwritten::TooShort(n)) => print!(rt; "3 {n} 0 "),
+        Err(Unwritten::Refused(r)) => print!(rt; "{} 0 0 ", r.number()),
     }
 }
 
 // What the field from `from` on is, up to the next space or the end.
 fn field(s: &[u8], from: usize) -> &[u8] {
-    let n = s.len();
-    if from < n {
-        let e = find(s, from, b' ');
-        return &s[from..e];
-    }
-    &s[n..]
+    let rest = s.get(from..).unwrap_or(b"");
+    rest.split(|&b| b == b' ').next().unwrap_or(b"")
 }
 
 fn run_call(rt: &HostRuntime, call: u8, a: &[u8], b: &[u8]) -> io::Result<()> {
     let mut out = [0u8; 1100];
-    if call == b'R' {
-        let w = resolve_reference(a, b, &mut out);
-        return print_written(rt, w, &out);
-    }
-    if call == b'T' {
-        let w = resolve_target(a, b, &mut out);
-        return print_written(rt, w, &out);
-    }
-    if call == b'C' {
-        let w = compose(a, b, &mut out);
-        return print_written(rt, w, &out);
-    }
-    if call == b'F' {
-        let w = relationships_part(a, &mut out);
-        return print_written(rt, w, &out);
-    }
-    if call == b'B' {
-        let w = source_of(a, &mut out);
-        return print_written(rt, w, &out);
-    }
-    let w = resolve_pack(a, &mut out);
-    print_resolved(rt, w, &out)
+    let w = match call {
+        b'R' => resolve_reference(a, b, &mut out),
+        b'T' => resolve_target(a, b, &mut out),
+        b'C' => compose(a, b, &mut out),
+        b'F' => relationships_part(a, &mut out),
+        b'B' => source_of(a, &mut out),
+        _ => {
+            let w = resolve_pack(a, &mut out);
+            return print_resolved(rt, w, &out);
+        }
+    };
+    print_written(rt, w, &out)
 }
 
 fn run_line(rt: &HostRuntime, s: &[u8]) -> io::Result<()> {
@@ -116,16 +78,14 @@ fn run_line(rt: &HostRuntime, s: &[u8]) -> io::Result<()> {
 }
 
 fn run_lines(rt: &HostRuntime, input: &[u8]) -> io::Result<()> {
-    let mut i = 0;
-    while i < input.len() {
-        let e = find(input, i, b'\n');
-        run_line(rt, &input[i..e])?;
-        i = e + 1;
+    for line in input.split_inclusive(|&b| b == b'\n') {
+        run_line(rt, line.strip_suffix(b"\n").unwrap_or(line))?;
     }
     Ok(())
 }
 
 // Reads to the end of the input, or till the buffer is full. How many bytes came.
+// A read brings as many bytes as it will, so no iterator counts them; the library's read_to_end needs a heap.
 fn read_full(rt: &HostRuntime, input: &mut [u8]) -> io::Result<usize>
     ensures { IfOk result (λ n. n ≤ length input.new) }
 {

@@ -1,7 +1,7 @@
 -- Whether a script begins with a call: one law for each test of it.
 -- Assumes nothing.
 use Prim.Native.Nat.{◌≤◌, ◌<◌}
-use mathlib.Core.Path.{◌≡◌, subst}
+use mathlib.Core.Path.{◌≡◌}
 use mathlib.Core.Bool.{true, false, ◌&&◌}
 use native.Mathlib.Omega.{arith}
 use lib.Dec.{leb}
@@ -11,9 +11,7 @@ use Rattle.base.proofs.Bools.{and_left, and_right}
 use Rattle.model.specs.Sets.{Bytes}
 use Rattle.script.specs.Calls.{head_size, last_code, code_of, call_size, is_call}
 use Rattle.script.specs.declared.heads.Head.{Head}
-use Rattle.script.specs.declared.heads.Next.{Next}
-use Rattle.script.specs.declared.heads.Next.TheVariants as next
-use Rattle.script.specs.Reading.{Headed, Called, Read}
+use Rattle.script.specs.Reading.{Headed, Called}
 
 module _ (s : Bytes) where
   pub no_head : length s < head_size → is_call s ≡ false
@@ -51,10 +49,3 @@ call_inside s e =
     let l : (leb head_size (length s) && leb (call_size s) (length s) && leb 1 (code_of s)) ≡ true = and_left _ (leb (code_of s) last_code) e in
     let m : (leb head_size (length s) && leb (call_size s) (length s)) ≡ true = and_left _ (leb 1 (code_of s)) l in
     (omega arith, leb-true (call_size s) (length s) (and_right (leb head_size (length s)) (leb (call_size s) (length s)) m))
-
--- what was read
-pub read_nothing : (s : Bytes) (r : Next) → Read s r → r ≡ next.Nothing → is_call s ≡ false
-read_nothing s r h e = subst (Read s) e h
-
-pub read_call : (s : Bytes) (r : Next) (h : Head) → Read s r → r ≡ next.Call h → Called s h
-read_call s r h x e = subst (Read s) e x

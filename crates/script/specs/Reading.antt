@@ -1,11 +1,9 @@
 -- What the functions that read a script promise.
 -- Assumes nothing.
-use Rattle.std.specs.Prelude.{◌^◌, ◌≤◌, ◌<◌, ◌≡◌, true, false, length}
+use Rattle.std.specs.Prelude.{◌^◌, ◌≤◌, ◌<◌, ◌≡◌, true, false, length, Option, Some, None}
 use Rattle.model.specs.Sets.{Bytes}
 use Rattle.script.specs.Calls.{head_size, last_code, code_of, room_of, number_of, end_a, end_b, end_c, call_size, is_call}
 use Rattle.script.specs.declared.heads.Head.{Head}
-use Rattle.script.specs.declared.heads.Next.{Next}
-use Rattle.script.specs.declared.heads.Next.TheVariants as next
 
 -- h is the head at the start of s
 pub record Headed (s : Bytes) (h : Head) : Type 0 where
@@ -25,6 +23,7 @@ pub record Called (s : Bytes) (h : Head) : Type 0 where
   pub known : (1 ≤ h.code) × (h.code ≤ last_code)
   pub is : is_call s ≡ true
 
-abbrev pub Read : Bytes → Next → Type 0
-Read s next.Nothing = is_call s ≡ false
-Read s (next.Call h) = Called s h
+-- the call that s begins with, if it begins with one
+abbrev pub Read : Bytes → Option Head → Type 0
+Read s None = is_call s ≡ false
+Read s (Some h) = Called s h

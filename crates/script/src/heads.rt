@@ -12,7 +12,7 @@ pub const HEAD_SIZE: usize = 32;
 const LAST_CODE: usize = 23;
 
 // The call's code, the length of the output that it is lent, its number, and where its four texts end.
-#[derive(Drop)]
+#[derive(Clone, Copy)]
 pub struct Head {
     pub code: usize,
     pub room: usize,
@@ -21,13 +21,6 @@ pub struct Head {
     pub b: usize,
     pub c: usize,
     pub d: usize,
-}
-
-// What a script begins with.
-#[derive(Drop)]
-pub enum Next {
-    Nothing,
-    Call(Head),
 }
 
 fn read_head(s: &[u8]) -> Head
@@ -50,23 +43,21 @@ fn read_head(s: &[u8]) -> Head
 }
 
 // The call that a script begins with, if its bytes begin with a whole one.
-pub fn next_call(s: &[u8]) -> Next
+pub fn next_call(s: &[u8]) -> Option<Head>
     ensures { Read s.now result }
 {
     if s.len() < HEAD_SIZE {
-        return Next::Nothing;
+        return None;
     }
     let h = read_head(s);
-    let code = h.code;
-    let end = h.d;
-    if s.len() < end {
-        return Next::Nothing;
+    if s.len() < h.d {
+        return None;
     }
-    if code < 1 {
-        return Next::Nothing;
+    if h.code < 1 {
+        return None;
     }
-    if LAST_CODE < code {
-        return Next::Nothing;
+    if LAST_CODE < h.code {
+        return None;
     }
-    Next::Call(h)
+    Some(h)
 }

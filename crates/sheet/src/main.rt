@@ -84,7 +84,7 @@ fn run(
 {
     let mut read = 0;
     let mut written = 0;
-    start(pkg, CAPACITY);
+    let _ = start(pkg, CAPACITY);
     let n = run_all(rt, pkg, line, piece, out, &mut read, &mut written);
     let e = finish(pkg, line, n, out);
     print(rt, &out[..e], &mut written);

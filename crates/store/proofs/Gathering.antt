@@ -14,7 +14,7 @@ use Rattle.store.specs.Buffer.{le4}
 use Rattle.store.specs.Layout.{heap_start, heap_size, format_of, cap_of, count_of, used_of, end_of, slot_at, slot_of, off_of, size_of}
 use Rattle.store.specs.Rows.{row_at, rows_of, row_size, tabulate, total}
 use Rattle.store.specs.Packages.{Sound, Gathered}
-use Rattle.store.specs.Places.{Lowest, Settled, Placed}
+use Rattle.store.specs.Places.{Lowest, AllBelow, Settled, Placed}
 use Rattle.base.proofs.Parts.{length_part}
 use Rattle.store.proofs.Numbers.{num4_le4, num_within, num_before}
 use Rattle.base.proofs.Writes.{Write, write, before, after}
@@ -66,22 +66,14 @@ gather_none b so = record {
   filled = sym (sum_zero (count_of b) (lying b 0) (λ i h. lying_above b 0 i (omega (arith, so.filled i h))));
 }
 
--- o and k are as the code has read them
-pub settle_is : (b b1 m : List ℕ) (r c e o k : ℕ) → o ≡ off_of (slot_of b r) → k ≡ size_of (slot_of b r) → c ≤ off_of (slot_of b r) → o + k ≤ e
-    → b1 ≡ splice b (heap_start + c) (part (heap_start + o) k b) → m ≡ splice b1 (slot_at r) (le4 c) → Settled b m r c e k
-settle_is b b1 m r c e o k eo ek h q e1 e2 = record {
-  fits = omega arith;
-  moved = λ w. (ek, e2 ∙ ap (λ (x : List ℕ). splice x (slot_at r) (le4 c)) (e1 ∙ ap (λ (x : ℕ). splice b (heap_start + c) (part (heap_start + x) k b)) eo));
-}
-
 -- the lowest row above c is moved down to it
 module _ (b l m : List ℕ) (n c e r k : ℕ) (g : Gathering b l c) (en : n ≡ count_of b) (ee : e ≡ end_of b) (he : e < 2 ^ 32) (hc : c ≤ e)
-    (lo : Lowest l n c r) (hr : r < n) (s : Settled l m r c e k) where
+    (lo : Lowest l n c r) (s : Settled l m r c e k) where
   low : r < count_of l
-  low = omega (arith, g.count)
+  low = omega (arith, lo.within, g.count)
 
   above : c ≤ off_of (slot_of l r)
-  above = lo.above hr
+  above = lo.above
 
   fits : off_of (slot_of l r) + size_of (slot_of l r) ≤ e
   fits = omega (arith, g.sound.inside r low, g.end)
@@ -95,7 +87,7 @@ module _ (b l m : List ℕ) (n c e r k : ℕ) (g : Gathering b l c) (en : n ≡ 
       let f = g.sound.filled i h in
       ⊎_elim (λ z. inl z)
       (λ z.
-      let v = (lo.least i (omega (arith, g.count)) z).1 in
+      let v = lo.least i (omega (arith, g.count)) z in
       ⊎_elim (λ q. ⊎_elim (λ a. absurd (omega arith)) (λ a. inr (omega (arith, size))) (g.sound.apart i r q low))
       (λ w. ⊎_elim (λ a. absurd (ne a)) (λ q. ⊎_elim (λ a. inr (omega (arith, size))) (λ a. absurd (omega arith)) (g.sound.apart r i q h)) w) (three i r))
       (g.split i h)
@@ -108,9 +100,6 @@ module _ (b l m : List ℕ) (n c e r k : ℕ) (g : Gathering b l c) (en : n ≡ 
       let p1 = write l b1 (heap_start + c) k (part (heap_start + o) k l) refl (length_part (heap_start + o) k l t) (omega (arith, above)) in
       let p2 = le4_write b1 m (slot_at r) c (s.moved fits).1 (omega (arith, low, g.sound.shape.few)) in
       moved l b1 m r c o k g.sound low refl (sym size) above (omega arith) clear p1 p2
-
-  pub gather_some : 0 < k
-  gather_some = omega (arith, size, g.sound.filled r low)
 
   others : (i : ℕ) → i < count_of l → (i ≡ r → ⊥) → lying m (c + k) i ≡ lying l c i
   others i h ne =
@@ -144,10 +133,10 @@ module _ (b l m : List ℕ) (n c e r k : ℕ) (g : Gathering b l c) (en : n ≡ 
       }
 
 -- no row is above c: the end is set to it
-module _ (b l m : List ℕ) (n c e r : ℕ) (g : Gathering b l c) (en : n ≡ count_of b) (ee : e ≡ end_of b) (he : e < 2 ^ 32) (hc : c ≤ e)
-    (lo : Lowest l n c r) (hr : n ≤ r) (em : m ≡ splice l 20 (le4 c)) where
+module _ (b l m : List ℕ) (n c e : ℕ) (g : Gathering b l c) (en : n ≡ count_of b) (ee : e ≡ end_of b) (he : e < 2 ^ 32) (hc : c ≤ e)
+    (lo : AllBelow l n c) (em : m ≡ splice l 20 (le4 c)) where
   all_below : (i : ℕ) → i < count_of l → off_of (slot_of l i) + size_of (slot_of l i) ≤ c
-  all_below i h = ⊎_elim (λ z. z) (λ z. absurd (omega (arith, (lo.least i (omega (arith, g.count)) z).0))) (g.split i h)
+  all_below i h = ⊎_elim (λ z. z) (λ z. absurd (omega (arith, lo.below i (omega (arith, g.count))))) (g.split i h)
 
   all_used : c ≡ used_of l
   all_used =
@@ -214,19 +203,3 @@ module _ (b l m : List ℕ) (n c e r : ℕ) (g : Gathering b l c) (en : n ≡ co
 -- the free place: at the end as it is, or once the rows are gathered
 pub place_here : (b : List ℕ) (k e h : ℕ) → e ≡ end_of b → h ≡ heap_size b → e + k ≤ h → Sound b → Placed b b k e
 place_here b k e h ee eh q so = record { sound = so; rows = refl; cap = refl; format = refl; end = ee; close = inl (omega arith) }
-
-pub place_full : (b : List ℕ) (k e u : ℕ) → e ≡ end_of b → u ≡ used_of b → e ≡ u → Sound b → Placed b b k e
-place_full b k e u ee eu q so = record { sound = so; rows = refl; cap = refl; format = refl; end = ee; close = inr (omega arith) }
-
-pub place_gathered : (b m : List ℕ) (k e : ℕ) → length m ≡ length b → e ≡ end_of m → (Sound b → Gathered b m) → Sound b → Placed b m k e
-place_gathered b m k e len ee f so =
-    let g = f so in
-    let u : used_of m ≡ used_of b = sym g.sound.exact ∙ ap total g.rows ∙ so.exact in
-    record {
-      sound = g.sound;
-      rows = g.rows;
-      cap = g.cap;
-      format = g.format;
-      end = ee;
-      close = inr (omega (arith, g.end));
-    }

@@ -205,13 +205,6 @@ module _ (b l : List ℕ) (n u a r k : ℕ) (ro : Room b r k) (en : n ≡ count_
   same_used : used_of l ≡ u
   same_used = sym pl.sound.exact ∙ ap total pl.rows ∙ so.exact ∙ sym eu
 
-  -- the code's two tests of the free place
-  pub place_above : a < u → ⊥
-  place_above h = omega (arith, same_used, pl.sound.shape.gaps, pl.end)
-
-  pub place_fits : (h : ℕ) → h ≡ heap_size l → h < a + k → ⊥
-  place_fits h e q = ⊎_elim (λ z. omega arith) (λ z. omega (arith, same_used, pl.cap, pl.sound.shape.room, pl.sound.shape.small)) pl.close
-
   pub insert_is : (b1 b2 b3 b4 : List ℕ) (f0 f1 f2 f3 : List ℕ) (t h : ℕ) → k ≡ size f0 f1 f2 f3 → 0 < length f0 → t < 2 ^ 32 → h ≡ heap_size l → a + k ≤ h
       → b1 ≡ splice l (heap_start + a) (fields f0 f1 f2 f3)
       → b2 ≡ splice b1 (slot_at r + 24) (part (slot_at r) (24 * (n - r)) b1)

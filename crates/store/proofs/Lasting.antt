@@ -1,22 +1,18 @@
 -- A row's bytes brought behind those of all others.
 -- Assumes nothing.
-use mathlib.Core.Path.{◌≡◌, refl, sym, ap, ◌∙◌}
-use mathlib.Core.Bool.{true, not, ◌&&◌}
+use mathlib.Core.Path.{◌≡◌, sym, ap, ◌∙◌}
 use mathlib.Core.Logic.{inl, inr, ⊎_elim}
 use Prim.Native.Nat.{ℕ, ◌+◌, ◌-◌, ◌≤◌, ◌<◌, ◌^◌}
 use mathlib.Core.List.{List}
 use native.Mathlib.Omega.{arith}
 use native.Mathlib.Nat.{add-zero}
-use lib.Dec.{ltb, eqb}
 use lib.ListN.{length}
-use borrow.Author.Tests.{ltb-true, eqb-false, not-true}
 use Rattle.base.specs.Buffer.{part, splice}
 use Rattle.store.specs.Buffer.{num4, le4}
 use Rattle.store.specs.Layout.{heap_start, heap_size, format_of, cap_of, count_of, used_of, end_of, slot_at, slot_of, off_of, size_of}
 use Rattle.store.specs.Rows.{row_at, rows_of, tabulate, total}
 use Rattle.store.specs.Packages.{Sound, Apart}
 use Rattle.store.specs.Places.{Sent, Placed, Last, Close, RowSent, Brought}
-use Rattle.base.proofs.Bools.{and_both}
 use Rattle.base.proofs.Writes.{part_part}
 use Rattle.store.proofs.Headers.{same_rows_count}
 use Rattle.store.proofs.RowPlaces.{three, Like, row_moved, row_same, same_rows_size}
@@ -174,20 +170,6 @@ module _ (b : List ℕ) (n r s e o h : ℕ) (so : Sound b) (en : n ≡ count_of 
 
   pub row_inside : o ≡ off_of (slot_of b r) → e < o + s → ⊥
   row_inside eo q = omega (arith, so.inside r (omega arith))
-
--- where k bytes do not fit there is no gap
-pub no_gap : (b : List ℕ) (k e u h x : ℕ) → Close b k → e ≡ end_of b → u ≡ used_of b → h ≡ heap_size b → x ≡ e + k → (ltb h x && not (eqb e u)) ≡ true → ⊥
-no_gap b k e u h x c ee eu eh ex q =
-    let t = and_both (ltb h x) (not (eqb e u)) q in
-    let l = ltb-true h x t.0 in
-    let ne = eqb-false e u (not-true (eqb e u) t.1) in
-    ⊎_elim (λ z. omega arith) (λ z. ne (omega arith)) c
-
--- the row is the last already
-pub brought_already : (b : List ℕ) (r k o s e h : ℕ) → o ≡ off_of (slot_of b r) → s ≡ size_of (slot_of b r) → e ≡ end_of b → h ≡ heap_size b → o + s ≡ e → e + k ≤ h → Brought b b r k
-brought_already b r k o s e h eo es ee eh q w = record {
-  is = λ so. (record { became = record { sound = so; rows = refl; cap = refl; format = refl }; end = omega arith }, inl (omega arith));
-}
 
 -- the rows were gathered or left where they were, then the row was sent
 pub brought_sent : (b l m : List ℕ) (n r s k at : ℕ) → n ≡ count_of b → r < count_of b → s ≡ size_of (slot_of b r) → (Sound b → Placed b l (s + k) at) → RowSent l m n r s k → Brought b m r k

@@ -13,7 +13,7 @@ use borrow.Author.Tests.{le-leb, lt-leb}
 use Rattle.base.specs.Buffer.{part, splice}
 use Rattle.store.specs.Buffer.{le4}
 use Rattle.store.specs.Layout.{header_size, heap_start, slot_at, slot_of, off_of}
-use Rattle.store.specs.Places.{Shifted, Lowered}
+use Rattle.store.specs.Places.{Shifted}
 use Rattle.base.proofs.Writes.{Write, before, after, part_part}
 use Rattle.store.proofs.Numbers.{num4_part, num4_le4, num_within}
 use Rattle.store.proofs.Joined.{le4_write}
@@ -30,12 +30,6 @@ pub record Lowering (b m : List ℕ) (i c k : ℕ) : Type 0 where
   pub done : (h : ℕ) → h < i → Shifted (slot_of b h) (slot_of m h) c k
   pub todo : (h : ℕ) → i ≤ h → h < 640 → slot_of m h ≡ slot_of b h
   pub rest : (a l : ℕ) → (a + l ≤ header_size) ⊎ (heap_start ≤ a) → a + l ≤ length b → part a l m ≡ part a l b
-
-pub lower_none : (b : List ℕ) (c k : ℕ) → Lowering b b 0 c k
-lower_none b c k = record { len = refl; done = λ h q. absurd (omega arith); todo = λ h q w. refl; rest = λ a l h q. refl }
-
-pub lower_all : (b m : List ℕ) (n i c k : ℕ) → Lowering b m i c k → n ≤ i → Lowered b m n c k
-lower_all b m n i c k w h = record { slots = λ j q. w.done j (omega arith); rest = w.rest }
 
 -- slot i is written with the offset v
 module _ (b m o : List ℕ) (i c k x v : ℕ) (w : Lowering b m i c k) (few : i < 640) (room : heap_start ≤ length b) (ex : x ≡ off_of (slot_of m i)) (small : x < 2 ^ 32)

@@ -1,14 +1,12 @@
 -- Numbers in a part, beside a write and inside it; and a number that was written is read back.
 -- Assumes nothing.
 use mathlib.Core.Path.{◌≡◌, sym, ap, ◌∙◌}
-use Prim.Native.Nat.{ℕ, ◌+◌, ◌/◌, ◌%◌, ◌≤◌, ◌<◌, ◌^◌}
+use Prim.Native.Nat.{ℕ, ◌+◌, ◌≤◌, ◌<◌, ◌^◌}
 use mathlib.Core.List.{List}
 use native.Mathlib.Omega.{arith}
 use native.Mathlib.Nat.{add_assoc, add-zero}
-use native.Mathlib.Numerals.{towards_suc}
-use lib.ListN.{length, get_or, set}
-use lib.Seq.{sets-eq}
-use Rattle.base.specs.Buffer.{part, splice}
+use lib.ListN.{length, get_or}
+use Rattle.base.specs.Buffer.{part}
 use Rattle.base.proofs.Parts.{get_or_part}
 use Rattle.base.proofs.Writes.{Write, before, after, within}
 use Rattle.store.specs.Buffer.{num4, le4}
@@ -33,12 +31,6 @@ num4_same l m a e =
 pub num4_le4 : (v : ℕ) → v < 2 ^ 32 → num4 (le4 v) 0 ≡ v
 unfolding le4 num4
 num4_le4 v h = omega arith
-
--- four stores are one splice
-pub put4_stores : (l : List ℕ) (a v : ℕ) → a + 4 ≤ length l
-    → set (set (set (set l a (v % 256)) (a + 1) (v / 256 % 256)) (a + 2) (v / 256 / 256 % 256)) (a + 3) (v / 256 / 256 / 256 % 256) ≡ splice l a (le4 v)
-unfolding splice le4
-put4_stores l a v h = simp towards_suc (simp towards_suc at (sets-eq (le4 v) l a h))
 
 -- a number at an index
 pub num_at : (l : List ℕ) (j : ℕ) → num4 (part j 4 l) 0 ≡ num4 l j

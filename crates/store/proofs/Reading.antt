@@ -43,17 +43,6 @@ module _ (b : List ℕ) (i j : ℕ) (x : List ℕ) (so : Sound b) (h : i < count
       unfolding row_of
       read_3 n3 e3 ej g = rw (last_field (row_at b i) j ej, ← ea, ← e0, ← e1, ← e2, ← e3) (g (omega (arith, so.inside i h)))
 
--- PLACES. The bytes that were asked for, or none
-pub span_none : (b : List ℕ) (at n : ℕ) → length b < at + n → Spanned b at n 0 0
-span_none b at n h = record { few = omega arith; inside = omega arith; is = λ l. absurd (omega arith) }
-
-pub span_here : (b : List ℕ) (at n : ℕ) → at + n ≤ length b → Spanned b at n at n
-span_here b at n h = record { few = omega arith; inside = h; is = λ _. refl }
-
--- no row has a field there
-pub field_none : (b : List ℕ) (i j : ℕ) → (Sound b → i < count_of b → ⊥) → FieldAt b i j 0 0
-field_none b i j f = record { few = omega arith; inside = omega arith; is = λ so h. absurd (f so h) }
-
 pub field_here : (b : List ℕ) (i j at n a m : ℕ) → Spanned b at n a m → n < 2 ^ 32
     → (Sound b → i < count_of b → part a m b ≡ field_of (row_at b i) j) → FieldAt b i j a m
 field_here b i j at n a m s l f = record { few = omega (arith, s.few); inside = s.inside; is = f }

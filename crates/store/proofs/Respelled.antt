@@ -38,14 +38,8 @@ module _ (l : List ℕ) (r o a old c u h : ℕ) (so : Sound l) (hr : r < count_o
   ends : o + a + old + c ≡ end_of l
   ends = omega (arith, none)
 
-  pub respell_end : (k : ℕ) → end_of l + k ≤ heap_size l → h < o + a + old + c → ⊥
-  respell_end k f q = omega (arith, ends)
-
   pub respell_used : u < old → ⊥
   respell_used q = omega (arith, size_used l r so hr)
-
-  pub respell_fits : (k : ℕ) → end_of l + k ≤ heap_size l → h < o + a + k + c → ⊥
-  respell_fits k f q = omega (arith, ends)
 
   module _ (n t k : ℕ) (s m1 m2 m : List ℕ) (en : n ≡ count_of l) (ek : length s ≡ k) (kept : 0 < length (row_at l r).f0) (fits : used_of l + k ≤ cap_of l)
       (room : o + a + k + c ≤ h) (ht : t < 2 ^ 32)

@@ -10,9 +10,9 @@ use Rattle.base.specs.Buffer.{part, splice}
 use Rattle.store.specs.Buffer.{le4}
 use Rattle.store.specs.Layout.{heap_start, count_of, end_of, slot_at, slot_of, off_of, size_of}
 use Rattle.store.specs.Packages.{Sound, Gathered}
-use Rattle.store.specs.Places.{Lowest, ByOffset, Settled, Carried, carried}
+use Rattle.store.specs.Places.{Lowest, AllBelow, ByOffset, Settled, Carried, carried}
 use Rattle.store.proofs.RowPlaces.{three}
-use Rattle.store.proofs.Scanning.{last}
+use Rattle.store.proofs.Scanning.{last, below_or_not}
 use Rattle.store.proofs.Moving.{Moved}
 use Rattle.store.proofs.Ordering.{named_once, named_low, place_of}
 use Rattle.store.proofs.Gathering.{Gathering, gather_none, gather_more, gather_all, move}
@@ -47,19 +47,19 @@ module _ (b l t : List ℕ) (n c h j : ℕ) (g : Gathering b l c) (en : n ≡ co
       let e = off_rest j (omega arith) p in
       let named = od.named j p in
       record {
-        within = omega arith;
-        above = λ z. omega (arith, (tk.rest j (omega arith) p).1);
+        within = named;
+        above = omega (arith, (tk.rest j (omega arith) p).1);
         least = λ x q z.
             let w = waiting x q z in
             let f = off_rest w.0 w.1 w.2 in
             let v : off_of (slot_of l (get_or t j 0)) ≤ off_of (slot_of l (get_or t w.0 0)) =
             ⊎_elim (λ y. omega (arith, od.rising j w.0 y w.2))
             (λ y. ⊎_elim (λ u. omega (arith, ap (λ (i : ℕ). off_of (slot_of l (get_or t i 0))) u)) (λ u. absurd (omega (arith, w.1))) y) (three j w.0) in
-            (named, rw w.3 at v);
+            rw w.3 at v;
       }
 
-  take_all : n ≤ j → Lowest l n c n
-  take_all p = record { within = omega arith; above = λ z. absurd (omega arith); least = λ x q z. let w = waiting x q z in absurd (omega (arith, w.1, w.2)) }
+  take_all : n ≤ j → AllBelow l n c
+  take_all p = record { below = λ x q. ⊎_elim (λ z. z) (λ z. let w = waiting x q z in absurd (omega (arith, w.1, w.2))) (below_or_not (off_of (slot_of l x)) c) }
 
 -- m is b with the first j rows of t gathered to c, but for the run of q bytes at a, which is still to be moved
 pub record Run (b m t : List ℕ) (n e c a q j : ℕ) : Type 0 where
@@ -132,7 +132,7 @@ module _ (b m t : List ℕ) (n e c a q j : ℕ) (s : Run b m t n e c a q j) (od 
       settled = carry_settled m m1 m2 a q c o k r x s.left s.low (row_behind so) (omega (arith, row_inside so, room so)) (few so) cr e2 e ek (row_inside so) (sym eo)
 
       moving : Moved (carried m a q c) (carried m2 (o - x) (x + k) (c + k)) r c
-      moving = move b (carried m a q c) (carried m2 (o - x) (x + k) (c + k)) n c e r k (s.gathering so) en ee he (omega (arith, s.low, s.inside)) lowest hr settled
+      moving = move b (carried m a q c) (carried m2 (o - x) (x + k) (c + k)) n c e r k (s.gathering so) en ee he (omega (arith, s.low, s.inside)) lowest settled
 
       other_slot : (i : ℕ) → i < n → (get_or t i 0 ≡ r → ⊥) → slot_of (carried m2 (o - x) (x + k) (c + k)) (get_or t i 0) ≡ slot_of (carried m a q c) (get_or t i 0)
       other_slot i h ne = moving.others (get_or t i 0) (omega (arith, od.named i h, (s.gathering so).count)) ne
@@ -160,7 +160,7 @@ module _ (b m t : List ℕ) (n e c a q j : ℕ) (s : Run b m t n e c a q j) (od 
           low = omega (arith, s.low);
           inside = omega arith;
           len = len ∙ s.len;
-          gathering = λ so. gather_more b (carried m a q c) (carried m2 (o - x) (x + k) (c + k)) n c e r k (s.gathering so) en ee he (omega (arith, s.low, s.inside)) (lowest so) hr (settled so);
+          gathering = λ so. gather_more b (carried m a q c) (carried m2 (o - x) (x + k) (c + k)) n c e r k (s.gathering so) en ee he (omega (arith, s.low, s.inside)) (lowest so) (settled so);
           taken = take_more;
         }
 
@@ -168,6 +168,6 @@ module _ (b m t : List ℕ) (n e c a q j : ℕ) (s : Run b m t n e c a q j) (od 
 pub run_all : (b m m1 m2 t : List ℕ) (n e c a q j : ℕ) → Run b m t n e c a q j → ByOffset b t n n → n ≡ count_of b → e ≡ end_of b → e < 2 ^ 32 → n ≤ j
     → m1 ≡ splice m (heap_start + (c - q)) (part (heap_start + a) q m) → m2 ≡ splice m1 20 (le4 c) → Sound b → Gathered b m2
 run_all b m m1 m2 t n e c a q j s od en ee he hj e1 e2 so =
-    gather_all b (carried m a q c) m2 n c e n (s.gathering so) en ee he (omega (arith, s.low, s.inside))
-    (take_all b (carried m a q c) t n c (a + q) j (s.gathering so) en od s.low (s.taken so) hj) (omega arith)
+    gather_all b (carried m a q c) m2 n c e (s.gathering so) en ee he (omega (arith, s.low, s.inside))
+    (take_all b (carried m a q c) t n c (a + q) j (s.gathering so) en od s.low (s.taken so) hj)
     (e2 ∙ ap (λ (l : List ℕ). splice l 20 (le4 c)) (carry_is m m1 a q c e1))

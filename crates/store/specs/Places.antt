@@ -30,11 +30,15 @@ pub record EndWithout (n e o k x : ℕ) : Type 0 where
   pub low : x ≤ e
   pub is : (x ≡ e) ⊎ (((x ≡ o) × (o + k ≡ e)) ⊎ ((x ≡ 0) × (n ≡ 1)))
 
--- among the first n slots, r is one of the least offset at or above c; n where there is none
+-- among the first n slots, r is one of the least offset at or above c
 pub record Lowest (b : List ℕ) (n c r : ℕ) : Type 0 where
-  pub within : r ≤ n
-  pub above : r < n → c ≤ off_of (slot_of b r)
-  pub least : (i : ℕ) → i < n → c ≤ off_of (slot_of b i) → (r < n) × (off_of (slot_of b r) ≤ off_of (slot_of b i))
+  pub within : r < n
+  pub above : c ≤ off_of (slot_of b r)
+  pub least : (i : ℕ) → i < n → c ≤ off_of (slot_of b i) → off_of (slot_of b r) ≤ off_of (slot_of b i)
+
+-- no slot among the first n has an offset at or above c
+pub record AllBelow (b : List ℕ) (n c : ℕ) : Type 0 where
+  pub below : (i : ℕ) → i < n → off_of (slot_of b i) < c
 
 -- the first k entries of t are slots among the first n, each of a greater offset than those before
 pub record ByOffset (b t : List ℕ) (n k : ℕ) : Type 0 where
@@ -46,6 +50,10 @@ pub record Settled (b m : List ℕ) (r c e k : ℕ) : Type 0 where
   pub fits : c + k ≤ e
   pub moved : off_of (slot_of b r) + size_of (slot_of b r) ≤ e
       → (k ≡ size_of (slot_of b r)) × (m ≡ splice (splice b (heap_start + c) (part (heap_start + off_of (slot_of b r)) k b)) (slot_at r) (le4 c))
+
+-- row r has no bytes, or they do not lie before e
+pub record Unsettled (b : List ℕ) (r e : ℕ) : Type 0 where
+  pub is : (size_of (slot_of b r) ≡ 0) ⊎ (e < off_of (slot_of b r) + size_of (slot_of b r))
 
 -- b with the q bytes at a in the heap moved down to end at c
 unfoldable pub carried : List ℕ → ℕ → ℕ → ℕ → List ℕ

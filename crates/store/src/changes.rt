@@ -1,8 +1,6 @@
 // Rows changed where they stand: bytes passed from one to another, a row spelled anew.
-ghost use Rattle.std.specs.Prelude.{◌≡◌, ◌++◌, ◌+◌, ◌^◌, ◌≤◌, ◌<◌, length};
-ghost use Rattle.base.specs.Buffer.{splice};
-ghost use Rattle.store.specs.Buffer.{le4};
-ghost use Rattle.store.specs.Layout.{slot_count, heap_start, max_capacity, count_of, slot_at, slot_bytes};
+ghost use Rattle.std.specs.Prelude.{◌≡◌, ◌^◌, ◌≤◌, ◌<◌, length};
+ghost use Rattle.store.specs.Layout.{slot_count, heap_start, max_capacity, count_of};
 ghost use Rattle.store.specs.Rows.{row_at, rows_of, replace_at, respelled};
 ghost use Rattle.store.specs.Packages.{Shape, Sound, Became, Passing, passed, Respelling};
 ghost use Rattle.store.specs.Places.{PassedBack, RespelledBack};
@@ -11,7 +9,7 @@ use crate::bytes::{get4, put4};
 use crate::ends::{bring_last, send};
 use crate::header::put_counts;
 use crate::heap::heap_size;
-use crate::slots::{number, offset, put_slot, size};
+use crate::slots::{Slot, number, offset, put_slot, size};
 use crate::{
     COUNT_AT, END_AT, HEADER_SIZE, HEAP_START, LENGTH0_AT, LENGTH1_AT, LENGTH2_AT, SLOT_SIZE,
     USED_AT,
@@ -63,25 +61,6 @@ pub fn pass(pkg: &mut [u8], j: usize, i: usize, n: usize)
     pass_back(pkg, rows, u, j, i, n);
 }
 
-// Writes the slot of row r, without a last field, and the header's numbers.
-fn put_last(
-    pkg: &mut [u8],
-    n: usize,
-    u: usize,
-    r: usize,
-    o: usize,
-    a: usize,
-    b: usize,
-    c: usize,
-    t: usize,
-)
-    requires { (n ≤ slot_count) × (u < 2 ^ 32) × (r < slot_count) × (o + a + b + c < 2 ^ 32) × (t < 2 ^ 32) × (heap_start ≤ length pkg.old) }
-    ensures { pkg.new ≡ splice (splice pkg.old (slot_at r) (slot_bytes o a b c 0 t)) 12 (le4 n ++ (le4 u ++ le4 (o + a + b + c))) }
-{
-    put_slot(pkg, HEADER_SIZE + SLOT_SIZE * r, o, a, b, c, 0, t);
-    put_counts(pkg, n, u, o + a + b + c);
-}
-
 // `respell`, where row r, one of n that use u bytes, is the last in the heap. Its last field has no bytes.
 fn respell_back(pkg: &mut [u8], n: usize, u: usize, r: usize, t: usize, s: &[u8])
     requires { (n ≤ slot_count) × (u ≤ max_capacity) × (r < slot_count) × (heap_start ≤ length pkg.old) × (t < 2 ^ 32) × (length s.now < 2 ^ 16) }
@@ -105,7 +84,16 @@ fn respell_back(pkg: &mut [u8], n: usize, u: usize, r: usize, t: usize, s: &[u8]
     let at = HEAP_START + o + a;
     shift(pkg, at + old, at + s.len(), c);
     copy_in(pkg, at, s);
-    put_last(pkg, n, used, r, o, a, s.len(), c, t);
+    let slot = Slot {
+        offset: o,
+        length0: a,
+        length1: s.len(),
+        length2: c,
+        length3: 0,
+        tag: t,
+    };
+    put_slot(pkg, HEADER_SIZE + SLOT_SIZE * r, slot);
+    put_counts(pkg, n, used, o + a + s.len() + c);
 }
 
 // Gives row r another tag and another field 1.

@@ -8,7 +8,7 @@ use crate::bytes::{get4, put4};
 use crate::heap::{free_place, heap_size};
 use crate::slots::{offset, size};
 use crate::{COUNT_AT, END_AT, HEADER_SIZE, HEAP_START, SLOT_SIZE, USED_AT};
-use base::moves::{move_up, turn};
+use base::moves::{shift, turn};
 
 // The offset o, k lower if it is c or above.
 fn lowered(o: usize, c: usize, k: usize) -> usize
@@ -26,11 +26,9 @@ fn lower_above(pkg: &mut [u8], n: usize, c: usize, k: usize)
     requires { (n ≤ slot_count) × (heap_start ≤ length pkg.old) × (k ≤ c) }
     ensures { Lowered pkg.old pkg.new n c k }
 {
-    let mut i = 0;
-    while i < n {
+    for i in 0..n {
         let o = offset(pkg, i);
         put4(pkg, HEADER_SIZE + SLOT_SIZE * i, lowered(o, c, k));
-        i += 1;
     }
 }
 
@@ -40,7 +38,7 @@ pub(crate) fn send(pkg: &mut [u8], n: usize, e: usize, x: usize, k: usize, more:
     ensures { Sent pkg.old pkg.new n e x k more result }
 {
     if e + k + more <= heap_size(pkg) {
-        move_up(pkg, HEAP_START + x, HEAP_START + e, k);
+        shift(pkg, HEAP_START + x, HEAP_START + e, k);
         put4(pkg, END_AT, e + k);
         return 0;
     }

@@ -6,7 +6,7 @@ ghost use Rattle.store.specs.Layout.{header_size, heap_start, max_capacity, form
 ghost use Rattle.store.specs.Rows.{rows_of};
 ghost use Rattle.store.specs.Packages.{Shape, Sound, is_package};
 
-use crate::bytes::{get4, put4, wide};
+use crate::bytes::{get4, put4};
 use crate::{CAPACITY_AT, COUNT_AT, END_AT, HEAP_START, SLOT_COUNT, USED_AT};
 use base::bytes::byte_at;
 use base::moves::copy_in;
@@ -35,10 +35,12 @@ fn number(pkg: &[u8], at: usize) -> usize
     if at + 4 <= pkg.len() {
         return get4(pkg, at);
     }
-    let a = wide(byte_at(pkg, at));
-    let b = wide(byte_at(pkg, at + 1));
-    let c = wide(byte_at(pkg, at + 2));
-    a + 256 * b + 65536 * c
+    u32::from_le_bytes([
+        byte_at(pkg, at),
+        byte_at(pkg, at + 1),
+        byte_at(pkg, at + 2),
+        0,
+    ]) as usize
 }
 
 // The kind of package.

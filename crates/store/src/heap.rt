@@ -1,16 +1,16 @@
 // The heap: the bytes of the rows' fields. New bytes go to its end; bytes that were left behind are reclaimed when the end has no room.
-ghost use Rattle.std.specs.Prelude.{◌≡◌, ◌++◌, ◌+◌, ◌^◌, ◌≤◌, ◌<◌, length};
+ghost use Rattle.std.specs.Prelude.{◌≡◌, ◌++◌, ◌+◌, ◌^◌, ◌≤◌, ◌<◌, length, MatchOption};
 ghost use Rattle.base.specs.Buffer.{splice};
 ghost use Rattle.store.specs.Layout.{slot_count, heap_start, heap_size, count_of, end_of, slot_of, off_of};
 ghost use Rattle.store.specs.Packages.{Shape, Sound, Gathered};
-ghost use Rattle.store.specs.Places.{EndWithout, Settled, Placed};
+ghost use Rattle.store.specs.Places.{EndWithout, Settled, Unsettled, Placed};
 
 use crate::bytes::{get4, put4};
 use crate::order::{is_ordered, order};
 use crate::runs::gather_runs;
 use crate::slots::{lowest, offset, size};
 use crate::{COUNT_AT, END_AT, HEADER_SIZE, HEAP_START, SLOT_SIZE, USED_AT};
-use base::moves::{copy_in, move_down};
+use base::moves::{copy_in, shift};
 
 const MAX_OFFSET: usize = 0xFFFFFFFF;
 
@@ -51,19 +51,19 @@ pub(crate) fn end_without(n: usize, e: usize, o: usize, k: usize) -> usize
     e
 }
 
-// Moves the bytes of row r down to c, if they lie before e; answers how many, or 0.
-fn settle(pkg: &mut [u8], r: usize, c: usize, e: usize) -> usize
+// Moves the bytes of row r down to c, if it has some and they lie before e; tells how many.
+fn settle(pkg: &mut [u8], r: usize, c: usize, e: usize) -> Option<usize>
     requires { (r < slot_count) × (c ≤ e) × (e + heap_start ≤ length pkg.old) × (e < 2 ^ 32) × (c ≤ off_of (slot_of pkg.old r)) }
-    ensures { Settled pkg.old pkg.new r c e result }
+    ensures { MatchOption result (Unsettled pkg.old r e) (λ k. (0 < k) × Settled pkg.old pkg.new r c e k) }
 {
     let o = offset(pkg, r);
     let k = size(pkg, r);
-    if e < o + k {
-        return 0;
+    if (k == 0) | (e < o + k) {
+        return None;
     }
-    move_down(pkg, HEAP_START + o, HEAP_START + c, k);
+    shift(pkg, HEAP_START + o, HEAP_START + c, k);
     put4(pkg, HEADER_SIZE + SLOT_SIZE * r, c);
-    k
+    Some(k)
 }
 
 // Gathers the rows' bytes at the heap's start: each time the lowest row is looked for. In a sound package every row can be settled.
@@ -72,14 +72,11 @@ fn gather_each(pkg: &mut [u8], n: usize, e: usize)
     ensures { Sound pkg.old → Gathered pkg.old pkg.new }
 {
     let mut c = 0;
-    let mut r = lowest(pkg, n, 0);
-    while r < n {
-        let k = settle(pkg, r, c, e);
-        if k == 0 {
+    while let Some(r) = lowest(pkg, n, c) {
+        let Some(k) = settle(pkg, r, c, e) else {
             return;
-        }
+        };
         c += k;
-        r = lowest(pkg, n, c);
     }
     put4(pkg, END_AT, c);
 }
@@ -94,8 +91,8 @@ fn compact(pkg: &mut [u8])
     let n = get4(pkg, COUNT_AT);
     let e = get4(pkg, END_AT);
     let t = order(pkg, n, e);
-    if is_ordered(pkg, &t, n) {
-        gather_runs(pkg, &t, n, e);
+    if is_ordered(pkg, &t[..n]) {
+        gather_runs(pkg, &t[..n], e);
         return;
     }
     gather_each(pkg, n, e);

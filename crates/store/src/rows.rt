@@ -8,12 +8,12 @@ ghost use Rattle.store.specs.Places.{Spanned, FieldAt, HeadOf};
 use crate::bytes::get4;
 use crate::header::put_counts;
 use crate::heap::{end_without, free_place, heap_size, put_fields};
-use crate::slots::{number, offset, put_slot, size};
+use crate::slots::{Slot, number, offset, put_slot, size};
 use crate::{
     COUNT_AT, END_AT, HEADER_SIZE, HEAP_START, LENGTH0_AT, LENGTH1_AT, LENGTH2_AT, LENGTH3_AT,
     OFFSET_AT, SLOT_COUNT, SLOT_SIZE, TAG_AT, USED_AT,
 };
-use base::moves::{move_down, move_up};
+use base::moves::shift;
 
 // The tag of row i: 0 where the buffer has no such row.
 pub fn tag(pkg: &[u8], i: usize) -> usize
@@ -61,7 +61,7 @@ fn span_at(pkg: &[u8], at: usize, n: usize) -> Span
     Span { at, length: n }
 }
 
-// Where field j of row i lies: no bytes where the buffer has no such row.
+// Where field j of row i lies: no bytes where the buffer has no such row. The C interface answers with such a place.
 pub fn field_place(pkg: &[u8], i: usize, j: usize) -> Span
     ensures { FieldAt pkg.now i j result.at result.length }
 {
@@ -73,19 +73,15 @@ pub fn field_place(pkg: &[u8], i: usize, j: usize) -> Span
     }
     let a = HEAP_START + number(pkg, i, OFFSET_AT);
     let n0 = number(pkg, i, LENGTH0_AT);
-    if j == 0 {
-        return span_at(pkg, a, n0);
-    }
     let n1 = number(pkg, i, LENGTH1_AT);
-    if j == 1 {
-        return span_at(pkg, a + n0, n1);
-    }
     let n2 = number(pkg, i, LENGTH2_AT);
-    if j == 2 {
-        return span_at(pkg, a + n0 + n1, n2);
-    }
     let n3 = number(pkg, i, LENGTH3_AT);
-    span_at(pkg, a + n0 + n1 + n2, n3)
+    match j {
+        0 => span_at(pkg, a, n0),
+        1 => span_at(pkg, a + n0, n1),
+        2 => span_at(pkg, a + n0 + n1, n2),
+        _ => span_at(pkg, a + n0 + n1 + n2, n3),
+    }
 }
 
 // Field j of row i: none where the buffer has no such row.
@@ -137,8 +133,16 @@ pub fn insert(pkg: &mut [u8], r: usize, tag: usize, f0: &[u8], f1: &[u8], f2: &[
         return;
     }
     put_fields(pkg, HEAP_START + at, f0, f1, f2, f3);
-    move_up(pkg, s, s + SLOT_SIZE, SLOT_SIZE * (n - r));
-    put_slot(pkg, s, at, f0.len(), f1.len(), f2.len(), f3.len(), tag);
+    shift(pkg, s, s + SLOT_SIZE, SLOT_SIZE * (n - r));
+    let slot = Slot {
+        offset: at,
+        length0: f0.len(),
+        length1: f1.len(),
+        length2: f2.len(),
+        length3: f3.len(),
+        tag,
+    };
+    put_slot(pkg, s, slot);
     put_counts(pkg, n + 1, u + k, at + k);
 }
 
@@ -157,6 +161,6 @@ pub fn remove(pkg: &mut [u8], r: usize)
         return;
     }
     let s = HEADER_SIZE + SLOT_SIZE * r;
-    move_down(pkg, s + SLOT_SIZE, s, SLOT_SIZE * (n - (r + 1)));
+    shift(pkg, s + SLOT_SIZE, s, SLOT_SIZE * (n - (r + 1)));
     put_counts(pkg, n - 1, u - k, end_without(n, e, o, k));
 }

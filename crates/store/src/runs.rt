@@ -5,10 +5,9 @@ ghost use Rattle.store.specs.Packages.{Shape, Sound, Gathered};
 ghost use Rattle.store.specs.Places.{ByOffset, Carried};
 
 use crate::bytes::put4;
-use crate::order::widened;
 use crate::slots::{offset, size};
 use crate::{END_AT, HEADER_SIZE, HEAP_START, SLOT_SIZE};
-use base::moves::move_down;
+use base::moves::shift;
 
 // Moves the run of q bytes at a down to end at c, unless the bytes at o go on with it. Answers how many of its bytes still are to be moved.
 fn carry(pkg: &mut [u8], a: usize, q: usize, c: usize, o: usize) -> usize
@@ -18,23 +17,22 @@ fn carry(pkg: &mut [u8], a: usize, q: usize, c: usize, o: usize) -> usize
     if o == a + q {
         return q;
     }
-    move_down(pkg, HEAP_START + a, HEAP_START + (c - q), q);
+    shift(pkg, HEAP_START + a, HEAP_START + (c - q), q);
     0
 }
 
-// Gathers the n rows at the heap's start, in the order t. Each slot tells at once where its row will lie; c is how far they reach,
+// Gathers the rows at the heap's start, in the order t. Each slot tells at once where its row will lie; c is how far they reach,
 // and the run of q bytes at a is still to be moved. In a sound package every row lies behind the run and before the end e.
-pub(crate) fn gather_runs(pkg: &mut [u8], t: &[u16], n: usize, e: usize)
-    requires shape { Shape pkg.old × (n ≡ count_of pkg.old) × (e ≡ end_of pkg.old) × (e < 2 ^ 32) }
-    requires n_in_bounds { (n ≤ length t.now) × ByOffset pkg.old t.now n n }
+pub(crate) fn gather_runs(pkg: &mut [u8], t: &[u16], e: usize)
+    requires shape { Shape pkg.old × (e ≡ end_of pkg.old) × (e < 2 ^ 32) }
+    requires order { (length t.now ≡ count_of pkg.old) × ByOffset pkg.old t.now (length t.now) (length t.now) }
     ensures { Sound pkg.old → Gathered pkg.old pkg.new }
 {
     let mut c = 0;
     let mut a = 0;
     let mut q = 0;
-    let mut j = 0;
-    while j < n {
-        let r = widened(t[j]);
+    for &x in t {
+        let r = x as usize;
         let o = offset(pkg, r);
         let k = size(pkg, r);
         if o < a + q {
@@ -48,8 +46,7 @@ pub(crate) fn gather_runs(pkg: &mut [u8], t: &[u16], n: usize, e: usize)
         a = o - left;
         q = left + k;
         c += k;
-        j += 1;
     }
-    move_down(pkg, HEAP_START + a, HEAP_START + (c - q), q);
+    shift(pkg, HEAP_START + a, HEAP_START + (c - q), q);
     put4(pkg, END_AT, c);
 }

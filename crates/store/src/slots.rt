@@ -1,36 +1,38 @@
 // The slots: each tells where a row's bytes lie, how long its fields are, and its tag.
-ghost use Rattle.std.specs.Prelude.{◌≡◌, ◌+◌, ◌^◌, ◌≤◌, ◌<◌, length};
+ghost use Rattle.std.specs.Prelude.{◌≡◌, ◌+◌, ◌^◌, ◌≤◌, ◌<◌, length, MatchOption};
 ghost use Rattle.base.specs.Buffer.{splice};
 ghost use Rattle.store.specs.Buffer.{num4};
 ghost use Rattle.store.specs.Layout.{slot_size, slot_count, heap_start, slot_of, slot_bytes, off_of, size_of};
-ghost use Rattle.store.specs.Places.{Lowest};
+ghost use Rattle.store.specs.Places.{Lowest, AllBelow};
 
 use crate::bytes::{get4, put4};
 use crate::{
     HEADER_SIZE, LENGTH0_AT, LENGTH1_AT, LENGTH2_AT, LENGTH3_AT, OFFSET_AT, SLOT_SIZE, TAG_AT,
 };
 
-// Writes a slot's six numbers.
-pub(crate) fn put_slot(
-    pkg: &mut [u8],
-    at: usize,
-    o: usize,
-    a: usize,
-    b: usize,
-    c: usize,
-    d: usize,
-    t: usize,
-)
+// What a slot tells: where a row's bytes lie in the heap, how long its fields are, and its tag.
+#[derive(Clone, Copy)]
+pub(crate) struct Slot {
+    pub(crate) offset: usize,
+    pub(crate) length0: usize,
+    pub(crate) length1: usize,
+    pub(crate) length2: usize,
+    pub(crate) length3: usize,
+    pub(crate) tag: usize,
+}
+
+// Writes a slot.
+pub(crate) fn put_slot(pkg: &mut [u8], at: usize, s: Slot)
     requires slot_size_in_bounds { at + slot_size ≤ length pkg.old }
-    requires o_bound { (o < 2 ^ 32) × (a < 2 ^ 32) × (b < 2 ^ 32) × (c < 2 ^ 32) × (d < 2 ^ 32) × (t < 2 ^ 32) }
-    ensures { pkg.new ≡ splice pkg.old at (slot_bytes o a b c d t) }
+    requires low { (s.offset < 2 ^ 32) × (s.length0 < 2 ^ 32) × (s.length1 < 2 ^ 32) × (s.length2 < 2 ^ 32) × (s.length3 < 2 ^ 32) × (s.tag < 2 ^ 32) }
+    ensures { pkg.new ≡ splice pkg.old at (slot_bytes s.offset s.length0 s.length1 s.length2 s.length3 s.tag) }
 {
-    put4(pkg, at, o);
-    put4(pkg, at + LENGTH0_AT, a);
-    put4(pkg, at + LENGTH1_AT, b);
-    put4(pkg, at + LENGTH2_AT, c);
-    put4(pkg, at + LENGTH3_AT, d);
-    put4(pkg, at + TAG_AT, t);
+    put4(pkg, at, s.offset);
+    put4(pkg, at + LENGTH0_AT, s.length0);
+    put4(pkg, at + LENGTH1_AT, s.length1);
+    put4(pkg, at + LENGTH2_AT, s.length2);
+    put4(pkg, at + LENGTH3_AT, s.length3);
+    put4(pkg, at + TAG_AT, s.tag);
 }
 
 // The number at k in slot i.
@@ -60,24 +62,19 @@ pub(crate) fn size(pkg: &[u8], i: usize) -> usize
         + number(pkg, i, LENGTH3_AT)
 }
 
-// One of the n rows whose bytes begin lowest in the heap, at or above c; n where none does.
-pub(crate) fn lowest(pkg: &[u8], n: usize, c: usize) -> usize
+// One of the n rows whose bytes begin lowest in the heap, at or above c. Of `filter` and `min_by_key` the check leaves the result open.
+pub(crate) fn lowest(pkg: &[u8], n: usize, c: usize) -> Option<usize>
     requires { (n ≤ slot_count) × (heap_start ≤ length pkg.now) }
-    ensures { Lowest pkg.now n c result }
+    ensures { MatchOption result (AllBelow pkg.now n c) (λ r. Lowest pkg.now n c r) }
 {
-    let mut r = n;
+    let mut r = None;
     let mut least: usize = 0x100000000;
-    let mut i = 0;
-    while i < n {
+    for i in 0..n {
         let o = offset(pkg, i);
-        if o == c {
-            return i;
-        }
         if (c <= o) & (o < least) {
-            r = i;
+            r = Some(i);
             least = o;
         }
-        i += 1;
     }
     r
 }

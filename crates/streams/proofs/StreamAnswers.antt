@@ -7,7 +7,9 @@ use native.Mathlib.Omega.{arith}
 use lib.ListN.{length}
 use Rattle.output.specs.Answers.{Answer, of_written, Text}
 use Rattle.output.specs.Sends.{Sent}
-use Rattle.output.specs.declared.writing.Written.TheVariants as written
+use Rattle.output.specs.declared.refusals.Refusal.TheVariants.{NotHeld}
+use Rattle.output.specs.declared.refusals.Unwritten.TheVariants as unwritten
+use Rattle.std.specs.Prelude.{Ok, Err}
 use Rattle.output.proofs.Sending.{sent_more, sent_as, append_none}
 use Rattle.output.proofs.Answering.{dry_short, dry_bytes}
 use Rattle.model.specs.Sets.{Bytes}
@@ -36,7 +38,7 @@ streamed b f t head foot o o₁ o₂ o₃ o₄ m₁ m₂ m₃ m₄ l₁ l₂ l�
 
 -- the rows have m bytes, and all rows use u
 module _ (b : List ℕ) (f t : ℕ) (head foot : Bytes) (k : t ≤ count_of b) (u : ℕ) (eu : u ≡ used_of b) (m : ℕ) (em : m ≡ run_size b f t) where
-  pub answered_foreign : (out : Bytes) → u < m → Answered b f t head foot out (of_written (written.Refused 13) out)
+  pub answered_foreign : (out : Bytes) → u < m → Answered b f t head foot out (of_written (Err (unwritten.Refused NotHeld)) out)
   answered_foreign out l = record {
     kept = λ _. refl;
     numbered = numbered 13 (omega arith) (omega arith);
@@ -46,7 +48,7 @@ module _ (b : List ℕ) (f t : ℕ) (head foot : Bytes) (k : t ≤ count_of b) (
 
   -- n is the length that the first pass over no bytes tells, ys what it left of them
   module _ (g : m ≤ u) (w ys out : Bytes) (n : ℕ) (x : Streamed b f t head foot w n ys) (z : length ys ≡ 0) where
-    pub answered_short : length (ys ++ out) < n → Answered b f t head foot out (of_written (written.Short n) (ys ++ out))
+    pub answered_short : length (ys ++ out) < n → Answered b f t head foot out (of_written (Err (unwritten.TooShort n)) (ys ++ out))
     answered_short l = record {
       kept = λ _. append_none ys out z;
       numbered = numbered 3 (omega arith) (omega arith);
@@ -54,7 +56,7 @@ module _ (b : List ℕ) (f t : ℕ) (head foot : Bytes) (k : t ≤ count_of b) (
       is = λ so. let T = stream_of b f t head foot in dry_short (Text T []) T w ys out n refl (x.is so k) z l;
     }
 
-    pub answered_bytes : n ≤ length (ys ++ out) → (r : ℕ) (out' : Bytes) → Streamed b f t head foot (ys ++ out) r out' → Answered b f t head foot out (of_written (written.Bytes r) out')
+    pub answered_bytes : n ≤ length (ys ++ out) → (r : ℕ) (out' : Bytes) → Streamed b f t head foot (ys ++ out) r out' → Answered b f t head foot out (of_written (Ok r) out')
     answered_bytes l r out' y = record {
       kept = λ q. absurd (q refl);
       numbered = zero_numbered;

@@ -6,13 +6,14 @@ use mathlib.Core.List.{List, [], ◌∷◌, ◌++◌, map, append_assoc, flat_ma
 use native.Mathlib.Nat.{add-zero}
 use lib.ListN.{length, length-append, length-map}
 use lib.Seq.{slice, take-append_seam}
-use borrow.Author.Tests.{eq-eqb, ne_eqb}
+use borrow.Author.Tests.{ne_eqb}
 use Rattle.chars.specs.Bytes.{ascii}
 use Rattle.chars.specs.Folding.{fold}
-use Rattle.output.specs.Answers.{Answer, answer, of_written}
+use Rattle.output.specs.Answers.{Answer, refusing}
 use Rattle.targets.specs.Targets.{source_refusal}
-use Rattle.output.specs.declared.writing.Written.TheVariants.{Refused}
-use Rattle.output.proofs.Answering.{refusing_is}
+use Rattle.output.specs.Refusals.{number}
+use Rattle.output.specs.declared.refusals.Refusal.{Refusal}
+use Rattle.output.proofs.Answering.{number_some}
 use Rattle.model.specs.Sets.{Bytes}
 use Rattle.model.specs.Places.{first_where, bound}
 use Rattle.model.specs.Package.{Relationship, State, key_of_relationship}
@@ -113,17 +114,19 @@ module _ (b : List ℕ) (o : Open b) where
   unfolding printed
   types_written f t ef et out a x = stream_ran b o WriteTypes refl out f t _ _ a x (λ S h. rw (types_stream_lem b S h f t ef et))
 
-  -- k is the refusal of the source
-  module _ (s out : Bytes) (k : ℕ) (ek : k ≡ source_refusal s) where
-    pub relationships_refused : (k ≡ 0 → ⊥) → Ran (Prints (WriteRelationships s) out) b (of_written (Refused k) out) b
-    unfolding printed
-    relationships_refused z =
-        rw (refusing_is k z (answer k (0 ∷ []) out))
-        (text_refused b o (WriteRelationships s) refl out k (subst Numbered (sym ek) (source_field_numbered s)) (λ S h. rw (← ek, ne_eqb k 0 z)))
+  -- the source is refused
+  pub relationships_refused : (s out : Bytes) (r : Refusal) → number r ≡ source_refusal s
+      → Ran (Prints (WriteRelationships s) out) b (refusing 1 r out) b
+  unfolding printed
+  relationships_refused s out r e =
+      text_refused b o (WriteRelationships s) refl out (number r) (subst Numbered (sym e) (source_field_numbered s))
+      (λ S h. rw (← e, ne_eqb (number r) 0 (number_some r)))
 
-    pub relationships_written : k ≡ 0 → (f t : ℕ) → Bounded b (key_in 3 s 0 []) f → Bounded b (key_in 3 s 0 (tilde ∷ [])) t → (a : Answer)
-        → Answered b f t (ascii "<Relationships xmlns=\"http://schemas.openxmlformats.org/package/2006/relationships\">\n") (ascii "</Relationships>\n") out a
-        → Ran (Prints (WriteRelationships s) out) b a b
-    unfolding printed
-    relationships_written z f t ef et a x =
-        stream_ran b o (WriteRelationships s) refl out f t _ _ a x (λ S h. rw (← ek, eq-eqb k 0 z, source_stream b S h s f t ef et))
+  -- or passes
+  pub relationships_written : (s out : Bytes) → 0 ≡ source_refusal s
+      → (f t : ℕ) → Bounded b (key_in 3 s 0 []) f → Bounded b (key_in 3 s 0 (tilde ∷ [])) t → (a : Answer)
+      → Answered b f t (ascii "<Relationships xmlns=\"http://schemas.openxmlformats.org/package/2006/relationships\">\n") (ascii "</Relationships>\n") out a
+      → Ran (Prints (WriteRelationships s) out) b a b
+  unfolding printed
+  relationships_written s out e f t ef et a x =
+      stream_ran b o (WriteRelationships s) refl out f t _ _ a x (λ S h. rw (← e, source_stream b S h s f t ef et))

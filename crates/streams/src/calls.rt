@@ -5,20 +5,17 @@ ghost use Rattle.contract.specs.Ran.{Ran};
 
 use crate::listing::write_stream;
 use chars::folded::fold_into;
-use contract::gate::opened;
+use contract::gate::check_package;
 use contract::search::{SearchKey, seek, set_start};
 use contract::{DEFAULTS, RELATIONSHIPS};
-use output::writing::Written;
-use targets::targets::source_refusal;
+use output::refusals::Unwritten;
+use targets::targets::check_source;
 
 // The Defaults, then the Overrides: the sets before the relationships.
-pub fn write_types(pkg: &[u8], out: &mut [u8]) -> Written
+pub fn write_types(pkg: &[u8], out: &mut [u8]) -> Result<usize, Unwritten>
     ensures { Ran (Call.Prints Print.WriteTypes out.old) pkg.now (of_written result out.new) pkg.now }
 {
-    let k = opened(pkg);
-    if k != 0 {
-        return Written::Refused(k);
-    }
+    check_package(pkg)?;
     let from = set_start(pkg, DEFAULTS);
     let to = set_start(pkg, RELATIONSHIPS);
     write_stream(
@@ -32,17 +29,11 @@ pub fn write_types(pkg: &[u8], out: &mut [u8]) -> Written
 }
 
 // The relationships of a source, by id: every id is before `~`.
-pub fn write_relationships(pkg: &[u8], source: &[u8], out: &mut [u8]) -> Written
+pub fn write_relationships(pkg: &[u8], source: &[u8], out: &mut [u8]) -> Result<usize, Unwritten>
     ensures { Ran (Call.Prints (Print.WriteRelationships source.now) out.old) pkg.now (of_written result out.new) pkg.now }
 {
-    let k = opened(pkg);
-    if k != 0 {
-        return Written::Refused(k);
-    }
-    let k = source_refusal(source);
-    if k != 0 {
-        return Written::Refused(k);
-    }
+    check_package(pkg)?;
+    check_source(source)?;
     let mut f = [0; 256];
     fold_into(&mut f, source);
     let w = SearchKey {

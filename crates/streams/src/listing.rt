@@ -7,7 +7,8 @@ ghost use Rattle.streams.specs.Streams.{run_size, Lined, Listed, Streamed, Answe
 
 use crate::entry_lines::{put_relationship_line, put_type_line};
 use contract::{DEFAULT_TAG, OVERRIDE_TAG};
-use output::writing::{Written, emit};
+use output::refusals::{Refusal, Unwritten};
+use output::writing::emit;
 use store::header::used;
 use store::rows::{field, row_size, tag};
 
@@ -51,10 +52,8 @@ fn put_lines(pkg: &[u8], from: usize, to: usize, out: &mut [u8], start: usize) -
     ensures { Listed pkg.now from to out.old start result out.new }
 {
     let mut at = start;
-    let mut i = from;
-    while i < to {
+    for i in from..to {
         at = put_line(pkg, i, out, at);
-        i += 1;
     }
     at
 }
@@ -76,10 +75,8 @@ fn run_size(pkg: &[u8], from: usize, to: usize) -> usize
     ensures { result ≡ run_size pkg.now from to }
 {
     let mut n = 0;
-    let mut i = from;
-    while i < to {
+    for i in from..to {
         n += row_size(pkg, i);
-        i += 1;
     }
     n
 }
@@ -93,16 +90,16 @@ pub(crate) fn write_stream(
     head: &[u8],
     foot: &[u8],
     out: &mut [u8],
-) -> Written
+) -> Result<usize, Unwritten>
     requires { Shape pkg.now × (to ≤ count_of pkg.now) × (length head.now ≤ 1000) × (length foot.now ≤ 1000) }
     ensures { Answered pkg.now from to head.now foot.now out.old (of_written result out.new) }
 {
     if used(pkg) < run_size(pkg, from, to) {
-        return Written::Refused(13);
+        return Err(Unwritten::Refused(Refusal::NotHeld));
     }
     let need = put_stream(pkg, from, to, head, foot, &mut out[..0]);
     if out.len() < need {
-        return Written::Short(need);
+        return Err(Unwritten::TooShort(need));
     }
-    Written::Bytes(put_stream(pkg, from, to, head, foot, out))
+    Ok(put_stream(pkg, from, to, head, foot, out))
 }

@@ -1,6 +1,6 @@
 -- Sources and targets of relationships, from what their judges ensure.
 -- Assumes nothing.
-use Prim.Native.Nat.{ℕ, ◌≤◌, ◌<◌}
+use Prim.Native.Nat.{ℕ, ◌≤◌}
 use mathlib.Core.Path.{◌≡◌, refl, ◌∙◌, sym, ap}
 use mathlib.Core.Bool.{true, ◌&&◌, Bool, false, not, cond}
 use mathlib.Core.List.{List, []}
@@ -8,7 +8,7 @@ use native.Mathlib.Omega.{arith}
 use lib.Dec.{eqb}
 use lib.ListN.{length, take}
 use lib.Seq.{length-take-le}
-use borrow.Author.Tests.{not-true, not-false, lt-leb, le-leb, eq-eqb, ne_eqb}
+use borrow.Author.Tests.{not-true, not-false, le-leb, eq-eqb, ne_eqb}
 use Rattle.chars.specs.Bytes.{ascii}
 use Rattle.chars.specs.Lists.{same, is_empty}
 use Rattle.base.proofs.Bools.{and_left, and_assoc}
@@ -19,12 +19,13 @@ use Rattle.output.specs.Answers.{Refused, Text}
 use Rattle.iri.specs.Components.{scheme_of, authority_of, query_of, fragment_of}
 use Rattle.iri.specs.Scratch.{SplitAt, Reached}
 use Rattle.targets.specs.Scratch.{NamedAs}
-use Rattle.output.proofs.Answering.{unless_refused}
+use Rattle.output.proofs.Answering.{number_some, unless_refused}
 use Rattle.targets.specs.Targets.{source_refusal, internal, internal_refusal, resolve_path, target_refusal, target_refusal_from, resolve_target}
-use Rattle.targets.specs.declared.targets.Name.{Name}
+use Rattle.output.specs.Refusals.{number}
+use Rattle.output.specs.declared.refusals.Refusal.{Refusal}
+use Rattle.std.specs.Prelude.{Ok}
 use Rattle.base.proofs.Lists.{length_take_le_length}
 use Rattle.iri.proofs.Splitting.{none_before, none_after}
-use Rattle.targets.specs.declared.targets.Name.TheVariants as name
 use Rattle.names.proofs.Lengths.{iri_few, name_few}
 
 -- a source, judged
@@ -100,24 +101,13 @@ module _ (source target : List ℕ) (i : Bool) (ei : i ≡ internal target) wher
           unfolding internal_refusal
           target_passes q = rw (← ei, not-false i qi, ← is_path, ← ep, not-false p qp, ← ev, q)
 
-          pub target_named : v ≡ false → k ≤ length out → NamedAs source target (name.Length k) out
+          pub target_named : v ≡ false → k ≤ length out → NamedAs source target (Ok k) out
           target_named q l = (target_passes q, is_path, sym (length-take-le k out l) ∙ ap length is_path)
 
--- what is told of a resolved name, by the two cases of the answer
-module _ (source target out : List ℕ) (n : Name) (h : NamedAs source target n out) where
-  pub named_length : (k : ℕ) → n ≡ name.Length k → NamedAs source target (name.Length k) out
-  named_length k e = rw e at h
-
-  pub named_refused : (k : ℕ) → n ≡ name.Refused k → NamedAs source target (name.Refused k) out
-  named_refused k e = rw e at h
-
-pub named_le : (source target out : List ℕ) (k : ℕ) → NamedAs source target (name.Length k) out → k ≤ length out
+pub named_le : (source target out : List ℕ) (k : ℕ) → NamedAs source target (Ok k) out → k ≤ length out
 named_le source target out k h = let e : k ≡ length (take k out) = h.2 ∙ ap length (sym h.1) in omega (arith, length_take_le_length k out)
 
 -- a target's refusal, by its mode
-pub refusal_long : (mode : ℕ) (source target : List ℕ) → 255 < length source → target_refusal_from mode source target ≡ 4
-refusal_long mode source target l = rw (lt-leb (length source) 255 l)
-
 module _ (mode : ℕ) (source target : List ℕ) (l : length source ≤ 255) where
   pub refusal_internal : mode ≡ 0 → target_refusal_from mode source target ≡ internal_refusal source target
   unfolding target_refusal
@@ -132,14 +122,20 @@ module _ (mode : ℕ) (source target : List ℕ) (l : length source ≤ 255) whe
     unfolding target_refusal
     refusal_9 q = rw (le-leb (length source) 255 l, ne_eqb mode 0 z, ← ei, q)
 
-pub target_source : (source target : List ℕ) (k : ℕ) → k ≡ source_refusal source → (k ≡ 0 → ⊥) → resolve_target source target ≡ Refused k
+-- any number but 0 is external
+pub by_number : (mode : ℕ) (source target : List ℕ) → (mode ≡ 0 → ⊥) → target_refusal_from 1 source target ≡ target_refusal_from mode source target
+unfolding target_refusal
+by_number mode source target z = rw (ne_eqb mode 0 z)
+
+pub target_source : (source target : List ℕ) (r : Refusal) → number r ≡ source_refusal source
+    → resolve_target source target ≡ Refused (number r)
 unfolding resolve_target
-target_source source target k e z = rw (← e) (unless_refused k _ z)
+target_source source target r e = rw (← e) (unless_refused (number r) _ (number_some r))
 
 module _ (source target : List ℕ) (e : source_refusal source ≡ 0) where
-  pub target_refused : (k : ℕ) → internal_refusal source target ≡ k → (k ≡ 0 → ⊥) → resolve_target source target ≡ Refused k
+  pub target_refused : (r : Refusal) → internal_refusal source target ≡ number r → resolve_target source target ≡ Refused (number r)
   unfolding resolve_target
-  target_refused k f z = rw (e, f) (unless_refused k _ z)
+  target_refused r f = rw (e, f) (unless_refused (number r) _ (number_some r))
 
   pub target_text : internal_refusal source target ≡ 0 → resolve_target source target ≡ Text (resolve_path source target) []
   unfolding resolve_target

@@ -1,6 +1,6 @@
 -- Sources and targets of relationships.
 -- Assumes nothing.
-use Rattle.std.specs.Prelude.{ℕ, Bool, true, ◌&&◌, cond, List, [], leb, eqb, length}
+use Rattle.std.specs.Prelude.{ℕ, ◌≡◌, ◌<◌, Bool, true, ◌&&◌, cond, List, [], leb, eqb, length, Result, MatchResult}
 use Rattle.chars.specs.Bytes.{ascii}
 use Rattle.chars.specs.Lists.{is_empty, same}
 use Rattle.names.specs.Names.{part_name, reserved}
@@ -8,6 +8,10 @@ use Rattle.names.specs.Iris.{iri}
 use Rattle.iri.specs.Components.{scheme_of, authority_of, query_of, fragment_of}
 use Rattle.iri.specs.References.{relative_path}
 use Rattle.output.specs.Answers.{Outcome, Text, unless}
+use Rattle.output.specs.Refusals.{number}
+use Rattle.output.specs.declared.refusals.Refusal.{Refusal}
+use Rattle.targets.specs.declared.targets.TargetMode.{TargetMode}
+use Rattle.targets.specs.declared.targets.TargetMode.TheVariants as mode
 
 -- "a source (`/` for the package, else an unreserved part name)": "4 not a part name; 5 reserved", 0 for none
 unfoldable pub source_refusal : List ℕ → ℕ
@@ -25,6 +29,15 @@ resolve_path source target = relative_path true source target
 unfoldable pub internal_refusal : List ℕ → List ℕ → ℕ
 internal_refusal source target =
     cond (internal target && part_name (resolve_path source target)) (cond (reserved (resolve_path source target)) 5 0) 9
+
+-- the number of a mode: "0 internal, 1 external"
+abbrev pub mode_number : TargetMode → ℕ
+mode_number mode.Internal = 0
+mode_number mode.External = 1
+
+-- the mode of a number; one above 1 is refused by 8
+abbrev pub ModeFrom : ℕ → Result TargetMode Refusal → Type 0
+ModeFrom n read = MatchResult read (λ m. mode_number m ≡ n) (λ r. (number r ≡ 8) × (1 < n))
 
 -- "a mode (0 internal, 1 external) and a target. An external target is an IRI." (A mode above 1 is refused by 8 before this is asked; here it
 -- counts as external.)

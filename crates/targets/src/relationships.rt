@@ -5,10 +5,11 @@ ghost use Rattle.targets.specs.Relationships.{relationships_of, relationships_pa
 ghost use Rattle.output.specs.Answers.{of_written, written};
 ghost use Rattle.output.specs.Sends.{Sent};
 
-use crate::targets::source_refusal;
+use crate::targets::check_source;
 use chars::search::find_past;
 use names::parts::is_reserved;
-use output::writing::{Written, emit, put_text};
+use output::refusals::{Refusal, Unwritten};
+use output::writing::{emit, put_text};
 
 fn put_relationships(s: &[u8], out: &mut [u8]) -> usize
     requires { length s.now ≤ 4096 }
@@ -22,22 +23,19 @@ fn put_relationships(s: &[u8], out: &mut [u8]) -> usize
 }
 
 // The name of the Relationships part of a source.
-pub fn relationships_part(s: &[u8], out: &mut [u8]) -> Written
+pub fn relationships_part(s: &[u8], out: &mut [u8]) -> Result<usize, Unwritten>
     ensures { of_written result out.new ≡ written (relationships_part s.now) out.old }
 {
-    let k = source_refusal(s);
-    if k != 0 {
-        return Written::Refused(k);
-    }
+    check_source(s)?;
     let need = put_relationships(s, &mut out[..0]);
     if out.len() < need {
-        return Written::Short(need);
+        return Err(Unwritten::TooShort(need));
     }
-    Written::Bytes(put_relationships(s, out))
+    Ok(put_relationships(s, out))
 }
 
 // The source, put together and judged: the segment _rels begins at p, the last one at q.
-fn source_at(s: &[u8], out: &mut [u8]) -> Written
+fn source_at(s: &[u8], out: &mut [u8]) -> Result<usize, Unwritten>
     requires { (reserved s.now ≡ true) × (length s.now ≤ 266) }
     ensures { of_written result out.new ≡ written (source_part s.now) out.old }
 {
@@ -48,21 +46,21 @@ fn source_at(s: &[u8], out: &mut [u8]) -> Written
     let mut source = [0; 266];
     let a = emit(&mut source, 0, &s[..p]);
     let k = emit(&mut source, a, &s[q..e]);
-    if source_refusal(&source[..k]) != 0 {
-        return Written::Refused(4);
+    if check_source(&source[..k]).is_err() {
+        return Err(Unwritten::Refused(Refusal::NotAPartName));
     }
     put_text(&source[..k], out)
 }
 
 // The source whose Relationships part has that name, in either case.
-pub fn source_of(s: &[u8], out: &mut [u8]) -> Written
+pub fn source_of(s: &[u8], out: &mut [u8]) -> Result<usize, Unwritten>
     ensures { of_written result out.new ≡ written (source_part s.now) out.old }
 {
     if 266 < s.len() {
-        return Written::Refused(4);
+        return Err(Unwritten::Refused(Refusal::NotAPartName));
     }
     if !is_reserved(s) {
-        return Written::Refused(4);
+        return Err(Unwritten::Refused(Refusal::NotAPartName));
     }
     source_at(s, out)
 }

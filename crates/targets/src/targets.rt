@@ -1,7 +1,8 @@
 // Sources and targets of relationships.
 ghost use Rattle.std.specs.Prelude.{◌≡◌, ◌≤◌, length};
-ghost use Rattle.targets.specs.Targets.{source_refusal, internal, target_refusal_from, resolve_target};
+ghost use Rattle.targets.specs.Targets.{source_refusal, internal, target_refusal_from, resolve_target, mode_number, ModeFrom};
 ghost use Rattle.output.specs.Answers.{of_written, written};
+ghost use Rattle.output.specs.Refusals.{number_of};
 ghost use Rattle.targets.specs.Scratch.{NamedAs};
 
 use chars::texts::is_root;
@@ -9,29 +10,23 @@ use iri::references::relative_path;
 use iri::split::split;
 use names::iris::is_iri;
 use names::parts::{is_part_name, is_reserved};
-use output::writing::{Written, put_text};
+use output::refusals::{Refusal, Unwritten};
+use output::writing::put_text;
 
-// The length of a part name that stands in scratch, or a refusal.
-#[derive(Drop)]
-pub enum Name {
-    Length(usize),
-    Refused(u8),
-}
-
-// 0 for a source, else its refusal.
-pub fn source_refusal(s: &[u8]) -> u8
-    ensures { result ≡ source_refusal s.now }
+// A source is / or a part name that is not reserved.
+pub fn check_source(s: &[u8]) -> Result<(), Refusal>
+    ensures { number_of result ≡ source_refusal s.now }
 {
     if is_root(s) {
-        return 0;
+        return Ok(());
     }
     if !is_part_name(s) {
-        return 4;
+        return Err(Refusal::NotAPartName);
     }
     if is_reserved(s) {
-        return 5;
+        return Err(Refusal::Reserved);
     }
-    0
+    Ok(())
 }
 
 // An IRI that is a path from its start to its end.
@@ -47,57 +42,83 @@ fn is_internal(t: &[u8]) -> bool
     (b == 0) & (p == t.len())
 }
 
-// The part name that an internal target resolves to is written to the start of out. What follows it in out is scratch.
-pub fn resolve_name(source: &[u8], target: &[u8], out: &mut [u8]) -> Name
+// The part name that an internal target resolves to is written to the start of out: its length. What follows it in out is scratch.
+pub fn resolve_name(source: &[u8], target: &[u8], out: &mut [u8]) -> Result<usize, Refusal>
     requires { (length source.now ≤ 255) × (512 ≤ length out.old) }
     ensures { NamedAs source.now target.now result out.new }
 {
     if !is_internal(target) {
-        return Name::Refused(9);
+        return Err(Refusal::BadTarget);
     }
     let k = relative_path(true, source, target, out);
     if !is_part_name(&out[..k]) {
-        return Name::Refused(9);
+        return Err(Refusal::BadTarget);
     }
     if is_reserved(&out[..k]) {
-        return Name::Refused(5);
+        return Err(Refusal::Reserved);
     }
-    Name::Length(k)
+    Ok(k)
 }
 
 // An internal target, resolved from its source.
-pub fn resolve_target(source: &[u8], target: &[u8], out: &mut [u8]) -> Written
+pub fn resolve_target(source: &[u8], target: &[u8], out: &mut [u8]) -> Result<usize, Unwritten>
     ensures { of_written result out.new ≡ written (resolve_target source.now target.now) out.old }
 {
-    let k = source_refusal(source);
-    if k != 0 {
-        return Written::Refused(k);
-    }
+    check_source(source)?;
     let mut scratch = [0; 512];
-    let n = resolve_name(source, target, &mut scratch);
-    match n {
-        Name::Length(m) => put_text(&scratch[..m], out),
-        Name::Refused(j) => Written::Refused(j),
+    let n = resolve_name(source, target, &mut scratch)?;
+    put_text(&scratch[..n], out)
+}
+
+// How a target is meant: a path from its source, or an IRI of its own.
+#[derive(Clone, Copy, PartialEq, Eq)]
+pub enum TargetMode {
+    Internal = 0,
+    External = 1,
+}
+
+impl TryFrom<u64> for TargetMode {
+    type Error = Refusal;
+
+    ghost try_from_gives = { ModeFrom };
+
+    fn try_from(mode: u64) -> Result<TargetMode, Refusal> {
+        match mode {
+            0 => Ok(TargetMode::Internal),
+            1 => Ok(TargetMode::External),
+            _ => Err(Refusal::BadRelationshipField),
+        }
     }
 }
 
-// 0 for a target, else its refusal: mode 0 internal, 1 external.
-pub fn target_refusal(mode: u8, source: &[u8], target: &[u8]) -> u8
-    ensures { result ≡ target_refusal_from mode source.now target.now }
+// Judges a target by its mode. A source above 255 bytes is no part name; else it is not judged.
+pub fn check_target(mode: TargetMode, source: &[u8], target: &[u8]) -> Result<(), Refusal>
+    ensures { number_of result ≡ target_refusal_from (mode_number mode) source.now target.now }
 {
     if 255 < source.len() {
-        return 4;
+        return Err(Refusal::NotAPartName);
     }
-    if mode != 0 {
-        if is_iri(target) {
-            return 0;
+    match mode {
+        TargetMode::Internal => {
+            let mut scratch = [0; 512];
+            resolve_name(source, target, &mut scratch)?;
+            Ok(())
         }
-        return 9;
+        TargetMode::External => {
+            if is_iri(target) {
+                return Ok(());
+            }
+            Err(Refusal::BadTarget)
+        }
     }
-    let mut scratch = [0; 512];
-    let n = resolve_name(source, target, &mut scratch);
-    match n {
-        Name::Length(_) => 0,
-        Name::Refused(k) => k,
+}
+
+// The same by the mode's number: 0 is internal, any other external.
+pub fn check_target_by(mode: u8, source: &[u8], target: &[u8]) -> Result<(), Refusal>
+    ensures { number_of result ≡ target_refusal_from mode source.now target.now }
+{
+    if mode == 0 {
+        return check_target(TargetMode::Internal, source, target);
     }
+    check_target(TargetMode::External, source, target)
 }

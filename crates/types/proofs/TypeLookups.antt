@@ -1,8 +1,8 @@
 -- The entry that gives a name its media type, by the rows of the Overrides and the Defaults; each way out of the media type call.
 -- Assumes nothing.
 use Prim.Native.Nat.{ℕ, ◌+◌, ◌≤◌, ◌<◌}
-use mathlib.Core.Path.{◌≡◌, refl, ap, sym, ◌∙◌, subst}
-use mathlib.Core.Bool.{Bool, true, false, cond, true≢false}
+use mathlib.Core.Path.{◌≡◌, refl, ap, sym, ◌∙◌}
+use mathlib.Core.Bool.{Bool, true, false, cond}
 use mathlib.Core.List.{List, [], ◌∷◌}
 use mathlib.Core.Option.{Option, none, some, none-ne-some, some-injective}
 use native.Mathlib.Omega.{arith}
@@ -12,9 +12,10 @@ use borrow.Author.Tests.{eq-eqb, ne_eqb}
 use Rattle.chars.specs.Bytes.{dot, slash}
 use Rattle.chars.specs.Lists.{after_last}
 use Rattle.chars.proofs.Searches.{last_le}
-use Rattle.output.specs.Answers.{Answer, answer, of_written, written, Text, Refused}
-use Rattle.output.specs.declared.writing.Written.TheVariants as told
-use Rattle.output.proofs.Answering.{refusing_is}
+use Rattle.output.specs.Answers.{Answer, answer, refusing, written, Text, Refused}
+use Rattle.output.specs.Refusals.{number}
+use Rattle.output.specs.declared.refusals.Refusal.{Refusal}
+use Rattle.output.proofs.Answering.{number_some}
 use Rattle.names.specs.Names.{last_segment, extension_at}
 use Rattle.model.specs.Sets.{Bytes, lookup}
 use Rattle.model.specs.Package.{State, Default, Override, name_key, key_of_default, key_of_override, default_for, media_type_of}
@@ -37,9 +38,7 @@ use Rattle.contract.proofs.RowKinds.{override_rows_lem, default_rows_lem}
 use Rattle.contract.proofs.SetStates.{found_row}
 use Rattle.parts.specs.Runs.{PartRefused}
 use Rattle.parts.proofs.TextAnswers.{text_refused, text_answered}
-use Rattle.types.specs.TypeRows.{origin_row, Typed, TypeFound}
-use Rattle.types.specs.declared.media.TypeRow.{TypeRow}
-use Rattle.types.specs.declared.media.TypeRow.TheVariants as typed
+use Rattle.types.specs.TypeRows.{origin_row, Typed}
 
 -- THE ROW of the entry that gives the type
 override_origin : (o : Option Override) (d : Option Default) (y : Row) → row_for override_row o ≡ some y → origin_row (origin_in o d) ≡ some y
@@ -127,47 +126,24 @@ module _ (b : List ℕ) (s : Bytes) (r m : ℕ) (er : Sought b (key_in 2 s 0 [])
           ∙ rw (ne_eqb i 0 z) (sym (default_row_lem b S h (drop i s)) ∙ row_none b (holds_ordered b S h) (key_in 1 (drop i s) 0 []) j ej k);
     }
 
--- THE ROW OF A PART'S TYPE, or the refusal
-abbrev is_row : TypeRow → Bool
-is_row (typed.At r) = true
-is_row (typed.Refused k) = false
-
-abbrev number_in : TypeRow → ℕ
-number_in (typed.At r) = r
-number_in (typed.Refused k) = k
-
-module _ (b : List ℕ) (name : Bytes) where
-  pub type_not_found : (k : ℕ) → (k ≡ 0 → ⊥) → PartRefused b name k → TypeFound b name (typed.Refused k)
-  type_not_found k z e = record {
-    stopped = λ j y. subst (λ (n : ℕ). (n ≡ 0 → ⊥) × PartRefused b name n) (ap number_in y) (z, e);
-    found = λ r y. absurd (true≢false (sym (ap is_row y)));
-  }
-
-  pub type_found : PartRefused b name 0 → (r : ℕ) → Typed b name r → TypeFound b name (typed.At r)
-  type_found e r t = record {
-    stopped = λ k y. absurd (true≢false (ap is_row y));
-    found = λ j y. (e, subst (Typed b name) (ap number_in y) t);
-  }
-
--- EACH WAY OUT OF THE CALL; k is the refusal of the part
-module _ (b : List ℕ) (o : Open b) (name out : Bytes) (k : ℕ) (ek : PartRefused b name k) where
+-- EACH WAY OUT OF THE CALL
+module _ (b : List ℕ) (o : Open b) (name out : Bytes) where
   -- "4 not a part name", "13 not held, no part yet"
-  pub type_stopped : (k ≡ 0 → ⊥) → Ran (Prints (MediaType name) out) b (of_written (told.Refused k) out) b
-  type_stopped z =
-      rw (refusing_is k z (answer k (0 ∷ []) out))
-      (text_refused b o (MediaType name) refl out k ek.numbered
-      (λ S h. type_refused S name (length out) (λ y. z (ek.is S h ∙ y)) ∙ ap Refused (sym (ek.is S h))))
+  pub type_stopped : (n : Refusal) → PartRefused b name (number n) → Ran (Prints (MediaType name) out) b (refusing 1 n out) b
+  type_stopped n e =
+      text_refused b o (MediaType name) refl out (number n) e.numbered
+      (λ S h. type_refused S name (length out) (λ y. number_some n (e.is S h ∙ y)) ∙ ap Refused (sym (e.is S h)))
 
-  module _ (z : k ≡ 0) (r m : ℕ) (t : Typed b name r) (em : m ≡ count_of b) where
+  module _ (e : PartRefused b name 0) (r m : ℕ) (t : Typed b name r) (em : m ≡ count_of b) where
     -- "14 no media type"
     pub type_none : m ≤ r → Ran (Prints (MediaType name) out) b (answer 14 (0 ∷ []) out) b
     type_none l =
         text_refused b o (MediaType name) refl out 14 (numbered 14 (omega arith) (omega arith))
-        (λ S h. type_printed S name (length out) (sym (ek.is S h) ∙ z) ∙ rw (typed_missing b name r t S h (omega arith)))
+        (λ S h. type_printed S name (length out) (sym (e.is S h)) ∙ rw (typed_missing b name r t S h (omega arith)))
 
     pub type_written : r < m → (s : Bytes) → (Sound b → r < count_of b → s ≡ field_of (row_at b r) 1) → (a : Answer) → a ≡ written (Text s []) out → Ran (Prints (MediaType name) out) b a b
     type_written l s es a ea =
         text_answered b o (MediaType name) refl out s a ea
         (λ S h.
         let x : s ≡ field_of (row_at b r) 1 = es h.lies.sound (omega arith) in
-        type_printed S name (length out) (sym (ek.is S h) ∙ z) ∙ rw (typed_found b name r t S h (omega arith), ← x))
+        type_printed S name (length out) (sym (e.is S h)) ∙ rw (typed_found b name r t S h (omega arith), ← x))

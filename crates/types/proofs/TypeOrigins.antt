@@ -9,8 +9,12 @@ use native.Mathlib.Omega.{arith}
 use lib.Dec.{eqb}
 use lib.ListN.{length, drop}
 use borrow.Author.Tests.{eq-eqb, ne_eqb}
-use Rattle.output.specs.Answers.{Answer, answer}
-use Rattle.output.proofs.Answering.{refusing_is}
+use Rattle.std.specs.Prelude.{Ok, Err}
+use Rattle.output.specs.Answers.{Answer, answer, refusing}
+use Rattle.output.specs.Refusals.{number}
+use Rattle.output.specs.declared.refusals.Refusal.{Refusal}
+use Rattle.output.specs.declared.refusals.Unwritten.TheVariants as unwritten
+use Rattle.output.proofs.Answering.{number_some}
 use Rattle.model.specs.Sets.{Bytes}
 use Rattle.model.specs.Package.{State}
 use Rattle.model.specs.TypeOrigin.{Origin, ByOverride, ByDefault, Neither, origin_of, kind_of, key_of, keyed, type_origin}
@@ -52,7 +56,7 @@ module _ (b : List ℕ) (r : ℕ) (l : r < count_of b) (out s : Bytes) (es : Sou
   key_is : (S : State) → Holds b S → (x : Origin) → origin_row x ≡ some (row_at b r) → s ≡ key_of x
   key_is S h x e = es h.lies.sound l ∙ sym (row_key_lem x (row_at b r) e)
 
-  pub key_short : length out < length s → RowKeyed b r out (of_type_origin (told.Short (length s)) out)
+  pub key_short : length out < length s → RowKeyed b r out (of_type_origin (Err (unwritten.TooShort (length s))) out)
   key_short f = record {
     kept = λ _. refl;
     numbered = numbered 3 (omega arith) (omega arith);
@@ -70,27 +74,26 @@ module _ (b : List ℕ) (r : ℕ) (l : r < count_of b) (out s : Bytes) (es : Sou
           ap (answer 0 (kind_by g ∷ length s ∷ [])) w ∙ sym (keyed_fits (kind_by g) s out f) ∙ ap₂ (λ (n : ℕ) (t : Bytes). keyed n t out) k (key_is S h x e);
     }
 
-    pub key_override : g ≡ override_tag → RowKeyed b r out (of_type_origin (told.Override (length s)) out')
+    pub key_override : g ≡ override_tag → RowKeyed b r out (of_type_origin (Ok (told.Override (length s))) out')
     unfolding kind_by
     key_override e = rw (eq-eqb g override_tag e) at key_written
 
-    pub key_default : (g ≡ override_tag → ⊥) → RowKeyed b r out (of_type_origin (told.Default (length s)) out')
+    pub key_default : (g ≡ override_tag → ⊥) → RowKeyed b r out (of_type_origin (Ok (told.Default (length s))) out')
     unfolding kind_by
     key_default z = rw (ne_eqb g override_tag z) at key_written
 
--- EACH WAY OUT OF THE CALL; k is the refusal of the part
-module _ (b : List ℕ) (o : Open b) (name out : Bytes) (k : ℕ) (ek : PartRefused b name k) where
+-- EACH WAY OUT OF THE CALL
+module _ (b : List ℕ) (o : Open b) (name out : Bytes) where
   -- "Its other refusals are that call's"
-  pub origin_stopped : (k ≡ 0 → ⊥) → Ran (TypeOrigin name out) b (of_type_origin (told.Refused k) out) b
-  origin_stopped z =
-      rw (refusing_is k z (answer k (0 ∷ 0 ∷ []) out))
-      (traced b o name out (answer k (0 ∷ 0 ∷ []) out) ek.numbered (λ _. refl)
+  pub origin_stopped : (n : Refusal) → PartRefused b name (number n) → Ran (TypeOrigin name out) b (refusing 2 n out) b
+  origin_stopped n e =
+      traced b o name out (refusing 2 n out) e.numbered (λ _. refl)
       (λ S h.
-      ap (λ (n : ℕ). answer n (0 ∷ 0 ∷ []) out) (ek.is S h) ∙ sym (origin_refused S name out (λ y. z (ek.is S h ∙ y)))))
+      ap (λ (k : ℕ). answer k (0 ∷ 0 ∷ []) out) (e.is S h) ∙ sym (origin_refused S name out (λ y. number_some n (e.is S h ∙ y))))
 
-  module _ (z : k ≡ 0) (r m : ℕ) (t : Typed b name r) (em : m ≡ count_of b) where
+  module _ (e : PartRefused b name 0) (r m : ℕ) (t : Typed b name r) (em : m ≡ count_of b) where
     told_as : (S : State) → Holds b S → type_origin S name out ≡ keyed (kind_of (origin_of name S)) (key_of (origin_of name S)) out
-    told_as S h = origin_done S name out (sym (ek.is S h) ∙ z)
+    told_as S h = origin_done S name out (sym (e.is S h))
 
     -- "neither: 0, nothing written"
     pub origin_neither : m ≤ r → Ran (TypeOrigin name out) b (answer 0 (0 ∷ 0 ∷ []) out) b

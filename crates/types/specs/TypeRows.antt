@@ -1,8 +1,10 @@
 -- The row of the entry that gives a name its media type. These are promises of inner functions.
 -- Assumes nothing.
-use Rattle.std.specs.Prelude.{ℕ, ◌≤◌, ◌<◌, ◌≡◌, List}
+use Rattle.std.specs.Prelude.{ℕ, ◌≤◌, ◌<◌, ◌≡◌, List, Result, Ok, Err}
 use Rattle.std.proofs.Math.Option.{Option, none, some}
 use Rattle.output.specs.Answers.{Answer}
+use Rattle.output.specs.Refusals.{number}
+use Rattle.output.specs.declared.refusals.Refusal.{Refusal}
 use Rattle.model.specs.Sets.{Bytes}
 use Rattle.model.specs.Package.{State}
 use Rattle.model.specs.TypeOrigin.{Origin, ByOverride, ByDefault, Neither, origin_of, kind_of, key_of, keyed}
@@ -12,8 +14,6 @@ use Rattle.store.specs.Rows.{Row, row_at}
 use Rattle.contract.specs.Rows.{default_row, override_row}
 use Rattle.contract.specs.Holds.{Holds}
 use Rattle.parts.specs.Runs.{PartRefused}
-use Rattle.types.specs.declared.media.TypeRow.{TypeRow}
-use Rattle.types.specs.declared.media.TypeRow.TheVariants.{At, Refused}
 
 -- the row of an entry
 abbrev pub origin_row : Origin → Option Row
@@ -27,9 +27,9 @@ pub record Typed (b : List ℕ) (name : Bytes) (r : ℕ) : Type 0 where
   pub missing : (S : State) → Holds b S → count_of b ≤ r → origin_row (origin_of name S) ≡ none
 
 -- of a part the row is found; a name that is none is refused as one
-pub record TypeFound (b : List ℕ) (name : Bytes) (a : TypeRow) : Type 0 where
-  pub stopped : (k : ℕ) → a ≡ Refused k → (k ≡ 0 → ⊥) × PartRefused b name k
-  pub found : (r : ℕ) → a ≡ At r → PartRefused b name 0 × Typed b name r
+abbrev pub TypeFound : List ℕ → Bytes → Result ℕ Refusal → Type 0
+TypeFound b name (Ok r) = PartRefused b name 0 × Typed b name r
+TypeFound b name (Err r) = PartRefused b name (number r)
 
 -- a is the answer that names the entry in row r of b
 pub record RowKeyed (b : List ℕ) (r : ℕ) (out : Bytes) (a : Answer) : Type 0 where

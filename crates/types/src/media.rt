@@ -8,21 +8,15 @@ ghost use Rattle.types.specs.TypeRows.{Typed, TypeFound};
 
 use chars::folded::fold_into;
 use contract::entries::locate;
-use contract::gate::opened;
+use contract::gate::check_package;
 use contract::search::SearchKey;
 use contract::{DEFAULTS, OVERRIDES};
 use names::parts::{extension_at, is_part_name};
-use output::writing::{Written, put_text};
+use output::refusals::{Refusal, Unwritten};
+use output::writing::put_text;
 use parts::runs::is_part;
 use store::header::count;
 use store::rows::field;
-
-// The row that a media type comes from, the number of rows where there is none; or the number of a refusal.
-#[derive(Drop)]
-pub enum TypeRow {
-    At(usize),
-    Refused(u8),
-}
 
 // The row of a name's Override, else that of the Default of its extension; the number of rows if it has neither.
 pub fn type_row(pkg: &[u8], f: &[u8; 256], name: &[u8]) -> usize
@@ -55,37 +49,30 @@ pub fn type_row(pkg: &[u8], f: &[u8; 256], name: &[u8]) -> usize
     locate(pkg, w, f, b"")
 }
 
-// The row of the entry that gives a part its media type. Refusals 4, 13.
-pub(crate) fn find_type(pkg: &[u8], name: &[u8]) -> TypeRow
+// The row of the entry that gives a part its media type, the number of rows where there is none.
+pub(crate) fn find_type(pkg: &[u8], name: &[u8]) -> Result<usize, Refusal>
     requires { Shape pkg.now }
     ensures { TypeFound pkg.now name.now result }
 {
     if !is_part_name(name) {
-        return TypeRow::Refused(4);
+        return Err(Refusal::NotAPartName);
     }
     let mut f = [0; 256];
     fold_into(&mut f, name);
     if !is_part(pkg, &f, name) {
-        return TypeRow::Refused(13);
+        return Err(Refusal::NotHeld);
     }
-    TypeRow::At(type_row(pkg, &f, name))
+    Ok(type_row(pkg, &f, name))
 }
 
 // The media type of a part: its Override's, else that of the Default of its extension.
-pub fn media_type(pkg: &[u8], name: &[u8], out: &mut [u8]) -> Written
+pub fn media_type(pkg: &[u8], name: &[u8], out: &mut [u8]) -> Result<usize, Unwritten>
     ensures { Ran (Call.Prints (Print.MediaType name.now) out.old) pkg.now (of_written result out.new) pkg.now }
 {
-    let k = opened(pkg);
-    if k != 0 {
-        return Written::Refused(k);
+    check_package(pkg)?;
+    let r = find_type(pkg, name)?;
+    if r < count(pkg) {
+        return put_text(field(pkg, r, 1), out);
     }
-    match find_type(pkg, name) {
-        TypeRow::Refused(k) => Written::Refused(k),
-        TypeRow::At(r) => {
-            if r < count(pkg) {
-                return put_text(field(pkg, r, 1), out);
-            }
-            Written::Refused(14)
-        }
-    }
+    Err(Unwritten::Refused(Refusal::NoMediaType))
 }

@@ -1,6 +1,6 @@
 -- The other worked lists, computed on the definitions.
 -- Assumes nothing.
-use Prim.Native.Nat.{ℕ, zero, suc, ◌≤◌, ◌<◌}
+use Prim.Native.Nat.{ℕ, ◌≤◌}
 use Prim.Native.String.{String}
 use mathlib.Core.Path.{◌≡◌, refl, ap, ◌∙◌}
 use mathlib.Core.List.{List, [], ◌∷◌, ◌++◌}
@@ -9,9 +9,11 @@ use lib.ListN.{length, get_or, take, drop}
 use lib.Seq.{take_all}
 use Rattle.chars.specs.Bytes.{ascii}
 use Rattle.output.specs.Answers.{Answer, answer, of_written, Text, filled}
-use Rattle.output.specs.declared.writing.Written.{Written}
-use Rattle.output.specs.declared.writing.Written.TheVariants as written
-use Rattle.output.proofs.Answering.{filled_fits}
+use Rattle.std.specs.Prelude.{Result, Ok, Err}
+use Rattle.output.specs.declared.refusals.Refusal.{Refusal}
+use Rattle.output.specs.declared.refusals.Unwritten.{Unwritten}
+use Rattle.output.specs.declared.refusals.Unwritten.TheVariants.{TooShort, Refused}
+use Rattle.output.proofs.Answering.{number_some, filled_fits}
 use Rattle.model.specs.Sets.{Bytes}
 use Rattle.model.specs.Package.{empty}
 use Rattle.model.specs.Calls.{Call, Looks, Changes, CutPart, TypeOrigin, Prints, Find, View, Totals, PutItem, DropItem, PutDefault, DropDefault, PutOverride}
@@ -20,9 +22,8 @@ use Rattle.model.specs.Calls.{done, answers, after}
 use Rattle.model.specs.TypeOrigin.{keyed, type_origin}
 use Rattle.model.proofs.Origins.{keyed_fits}
 use Rattle.model.specs.Opened.{everything}
-use Rattle.contract.specs.Answers.{of_totalled}
-use Rattle.contract.specs.declared.answers.Totalled.{Totalled}
-use Rattle.contract.specs.declared.answers.Totalled.TheVariants as totalled
+use Rattle.contract.specs.Answers.{of_totals}
+use Rattle.contract.specs.declared.answers.Totals as totals
 use Rattle.types.specs.TypeOrigins.{of_type_origin}
 use Rattle.types.specs.declared.origin.TypeOrigin.TheVariants as origin
 use Rattle.types.specs.declared.origin.TypeOrigin as origins
@@ -33,26 +34,28 @@ wrote_fits : (t out : Bytes) → length t ≤ length out → filled 1 out (Text 
 wrote_fits t out h = filled_fits 1 out t [] h
 
 -- what then stands in the output
-pub wrote_output : (r : Written) (t o out : Bytes) → 0 < length t → of_written r o ≡ wrote t out → o ≡ t ++ drop (length t) out
-wrote_output (written.Bytes n) t o out h e = ap (λ (a : Answer). a.output) e
-wrote_output (written.Short n) t o out h e = absurd (omega (arith, ap (λ (a : Answer). a.number) e))
-wrote_output (written.Refused zero) t o out h e = absurd (omega (arith, ap (λ (a : Answer). get_or a.values 0 0) e))
-wrote_output (written.Refused (suc k)) t o out h e = absurd (omega (arith, ap (λ (a : Answer). a.number) e))
+pub wrote_output : (r : Result ℕ Unwritten) (t o out : Bytes) → of_written r o ≡ wrote t out → o ≡ t ++ drop (length t) out
+wrote_output (Ok n) t o out e = ap (λ (a : Answer). a.output) e
+wrote_output (Err (TooShort n)) t o out e = absurd (omega (arith, ap (λ (a : Answer). a.number) e))
+wrote_output (Err (Refused f)) t o out e = absurd (number_some f (ap (λ (a : Answer). a.number) e))
 
 -- and where the entry was named
-pub named_output : (r : origins.TypeOrigin) (t o out : Bytes) → of_type_origin r o ≡ by_default t out → o ≡ t ++ drop (length t) out
-named_output (origin.Override n) t o out e = ap (λ (a : Answer). a.output) e
-named_output (origin.Default n) t o out e = ap (λ (a : Answer). a.output) e
-named_output origin.Neither t o out e = ap (λ (a : Answer). a.output) e
-named_output (origin.Short n) t o out e = ap (λ (a : Answer). a.output) e
-named_output (origin.Refused zero) t o out e = absurd (omega (arith, ap (λ (a : Answer). a.number) e))
-named_output (origin.Refused (suc k)) t o out e = ap (λ (a : Answer). a.output) e
+pub named_output : (r : Result origins.TypeOrigin Unwritten) (t o out : Bytes) → of_type_origin r o ≡ by_default t out → o ≡ t ++ drop (length t) out
+named_output (Ok (origin.Override n)) t o out e = ap (λ (a : Answer). a.output) e
+named_output (Ok (origin.Default n)) t o out e = ap (λ (a : Answer). a.output) e
+named_output (Ok origin.Neither) t o out e = ap (λ (a : Answer). a.output) e
+named_output (Err (TooShort n)) t o out e = ap (λ (a : Answer). a.output) e
+named_output (Err (Refused f)) t o out e = ap (λ (a : Answer). a.output) e
 
 -- totals of some items are no refusal
-pub totals_of : (r : Totalled) (i n c : ℕ) → 0 < i → of_totalled r ≡ answer 0 (i ∷ n ∷ c ∷ []) [] → r ≡ totalled.Of i n c
-totals_of (totalled.Of j m d) i n c h e = rw (← ap (λ (a : Answer). get_or a.values 0 0) e, ← ap (λ (a : Answer). get_or a.values 1 0) e, ← ap (λ (a : Answer). get_or a.values 2 0) e)
-totals_of (totalled.Refused zero) i n c h e = absurd (omega (arith, ap (λ (a : Answer). get_or a.values 0 0) e))
-totals_of (totalled.Refused (suc k)) i n c h e = absurd (omega (arith, ap (λ (a : Answer). a.number) e))
+pub totals_of : (r : Result totals.Totals Refusal) (i n c : ℕ) → of_totals r ≡ answer 0 (i ∷ n ∷ c ∷ []) []
+    → r ≡ Ok (record { items = i; parts = n; charge = c })
+totals_of (Ok t) i n c e = rw (← ap (λ (a : Answer). get_or a.values 0 0) e, ← ap (λ (a : Answer). get_or a.values 1 0) e, ← ap (λ (a : Answer). get_or a.values 2 0) e)
+totals_of (Err f) i n c e = absurd (number_some f (ap (λ (a : Answer). a.number) e))
+
+-- what an answer holds
+pub held_in : {A : Type 0} {r : Result A Refusal} {x y : A} → r ≡ Ok x → r ≡ Ok y → x ≡ y
+held_in e f = cc (e, f)
 
 -- ONE TILE OF TWO. the calls after the start, but for the last one; then the ledger's answer to the last one
 abbrev pub counting : List Call

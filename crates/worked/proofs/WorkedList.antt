@@ -1,6 +1,6 @@
 -- The worked lists, computed on the definitions.
 -- Assumes nothing.
-use Prim.Native.Nat.{ℕ, zero, suc, ◌+◌, ◌≤◌}
+use Prim.Native.Nat.{ℕ, ◌+◌, ◌≤◌}
 use Prim.Native.Char.{code}
 use mathlib.Core.Path.{◌≡◌, refl, sym, ap, ◌∙◌}
 use mathlib.Core.List.{List, [], ◌∷◌, ◌++◌}
@@ -15,8 +15,11 @@ use Rattle.model.specs.Package.{empty}
 use Rattle.model.specs.Calls.{Call, Start, Looks, Changes, Prints, Find, PutItem, PutDefault, PutRelationship, Print, WriteTypes, ResolveRelationship, printed, done, start_refusal, answers, after}
 use Rattle.model.specs.Opened.{everything}
 use Rattle.contract.specs.Answers.{of_found}
-use Rattle.contract.specs.declared.answers.Found.{Found}
-use Rattle.contract.specs.declared.answers.Found.TheVariants.{Length, Refused}
+use Rattle.std.specs.Prelude.{Result, Ok, Err}
+use Rattle.output.specs.declared.refusals.Refusal.{Refusal}
+use Rattle.output.specs.declared.refusals.Unwritten.{Unwritten}
+use Rattle.output.specs.declared.refusals.Unwritten.TheVariants.{TooShort, Refused}
+use Rattle.output.proofs.Answering.{number_some}
 use Rattle.contract.specs.Ran.{Ran, Runs}
 use Rattle.package.specs.Demand.{answers_of, calls_of}
 use Rattle.package.proofs.EveryRun.{every_run}
@@ -51,10 +54,9 @@ ledger_answer C n {o} {p} {q} {a} {s} k h r rs =
     ap (λ (l : List Answer). get_or l n done) (every_run C o p q a s r (accepted C o p a k h r) rs).answered
 
 -- a length is no refusal
-pub found_length : (r : Found) (n : ℕ) → of_found r ≡ answer 0 (n ∷ []) [] → r ≡ Length n
-found_length (Length m) n e = ap Length (ap (λ (a : Answer). get_or a.values 0 0) e)
-found_length (Refused zero) n e = absurd (omega (arith, ap (λ (a : Answer). a.number) e))
-found_length (Refused (suc k)) n e = absurd (omega (arith, ap (λ (a : Answer). a.number) e))
+pub found_length : (r : Result ℕ Refusal) (n : ℕ) → of_found r ≡ answer 0 (n ∷ []) [] → r ≡ Ok n
+found_length (Ok m) n e = ap Ok (ap (λ (a : Answer). get_or a.values 0 0) e)
+found_length (Err f) n e = absurd (number_some f (ap (λ (a : Answer). a.number) e))
 
 -- the marked example of resolving: the calls after the start, but for the last one, and the last one
 abbrev pub leading : Bytes → List Call
@@ -78,12 +80,11 @@ unfolding answers after
 led_last room types out h = ap (filled 3 out) (led_printed room (length out) types) ∙ filled_fits 3 out led_text (0 ∷ 1 ∷ []) h
 
 -- the last byte of what was written
-output_is : (r : Resolution) (o : Bytes) → (of_resolution r o).number ≡ 0 → (of_resolution r o).output ≡ o
-output_is (resolution.Internal n h) o e = refl
-output_is (resolution.External n) o e = refl
-output_is (resolution.Short n) o e = refl
-output_is (resolution.Refused zero) o e = absurd (omega arith)
-output_is (resolution.Refused (suc k)) o e = refl
+output_is : (r : Result Resolution Unwritten) (o : Bytes) → (of_resolution r o).output ≡ o
+output_is (Ok (resolution.Internal n h)) o = refl
+output_is (Ok (resolution.External n)) o = refl
+output_is (Err (TooShort n)) o = refl
+output_is (Err (Refused f)) o = refl
 
-pub led_end : (r : Resolution) (out written : Bytes) → of_resolution r written ≡ led_to out → get_or written 47 0 ≡ code "l"
-led_end r out written e = ap (λ (o : Bytes). get_or o 47 0) (sym (output_is r written (ap (λ (a : Answer). a.number) e)) ∙ ap (λ (a : Answer). a.output) e)
+pub led_end : (r : Result Resolution Unwritten) (out written : Bytes) → of_resolution r written ≡ led_to out → get_or written 47 0 ≡ code "l"
+led_end r out written e = ap (λ (o : Bytes). get_or o 47 0) (sym (output_is r written) ∙ ap (λ (a : Answer). a.output) e)

@@ -12,7 +12,7 @@ shape_of-p c =
 
 pub returns : goal.returns
 returns c =
-    totals_of c.totals.result 1 1 11 (omega arith) (ledger_answer 100 5 (omega arith) c.requires c.start.ensures
+    totals_of c.totals.result 1 1 11 (ledger_answer 100 5 (omega arith) c.requires c.start.ensures
     (more c.put_item.ensures
     (more c.put_item-2.ensures
     (more c.put_default.ensures

@@ -7,7 +7,7 @@ use Rattle.worked.proofs.received.Goals as goal
 
 pub returns : goal.returns
 returns c =
-    totals_of c.totals.result 1 1 42 (omega arith) (ledger_answer 100 4 (omega arith) c.requires c.start.ensures
+    totals_of c.totals.result 1 1 42 (ledger_answer 100 4 (omega arith) c.requires c.start.ensures
     (more c.put_item.ensures
     (more c.read_types.ensures
     (more c.read_types-2.ensures

@@ -1,4 +1,3 @@
-use native.Mathlib.Omega.{arith}
 use mathlib.Core.Path.{ap}
 use lib.ListN.{replicate, get_or}
 use borrow.Author.Tests.{eq-eqb}
@@ -15,7 +14,7 @@ expect-requires c = eq-eqb _ 108 (led_end c.led.result (replicate 48 0) _ c.led.
 pub expect-requires-2 : goal.expect-requires-2
 expect-requires-2 c =
     eq-eqb _ 102 (ap (λ (o : Bytes). get_or o 9 0)
-    (wrote_output c.typed.result tiff_type _ (replicate 10 0) (omega arith) c.typed.ensures))
+    (wrote_output c.typed.result tiff_type _ (replicate 10 0) c.typed.ensures))
 
 pub expect-requires-3 : goal.expect-requires-3
 expect-requires-3 c =
@@ -25,9 +24,9 @@ expect-requires-3 c =
 pub expect-requires-4 : goal.expect-requires-4
 expect-requires-4 c =
     eq-eqb _ 100 (ap (λ (o : Bytes). get_or o 2 0)
-    (wrote_output c.joined.result joined_from _ (replicate 3 0) (omega arith) c.joined.ensures))
+    (wrote_output c.joined.result joined_from _ (replicate 3 0) c.joined.ensures))
 
 pub expect-requires-5 : goal.expect-requires-5
 expect-requires-5 c =
     eq-eqb _ 10 (ap (λ (o : Bytes). get_or o 217 0)
-    (wrote_output c.linked.result linked_text _ (replicate 218 0) (omega arith) c.linked.ensures))
+    (wrote_output c.linked.result linked_text _ (replicate 218 0) c.linked.ensures))

@@ -1,13 +1,10 @@
-use mathlib.Core.Path.{refl, ap}
-use mathlib.Core.List.{[], ◌∷◌}
+use mathlib.Core.Path.{refl, ap, sym}
 use Rattle.contract.specs.Answers.{of_found}
-use Rattle.abi.proofs.Handing.{hands, hands_refusal}
+use Rattle.abi.proofs.Handing.{hands, handed_as}
 use Rattle.abi.proofs.replies.of_found.Goals as goal
 
-pub returns-in-Length : goal.returns-in-Length
-returns-in-Length c = λ z. hands _ _ _ _ _ c.one.ensures refl refl (ap of_found c.in-Length.is)
+pub returns-in-Ok : goal.returns-in-Ok
+returns-in-Ok c = hands _ _ _ _ _ c.one.ensures refl refl (ap of_found c.in-Ok.is)
 
-pub returns-in-Refused : goal.returns-in-Refused
-returns-in-Refused c =
-    λ z. hands_refusal c.in-Refused.k (0 ∷ []) _ _ _ c.one-in-Refused.ensures (ap of_found c.in-Refused.is)
-    z
+pub returns-in-Err : goal.returns-in-Err
+returns-in-Err c = handed_as (sym (ap of_found c.in-Err.is)) (c.of_refusal.ensures _)

@@ -1,13 +1,8 @@
 use mathlib.Core.Path.{sym, ◌∙◌}
-use native.Mathlib.Omega.{arith}
-use lib.Seq.{length-take-le}
 use borrow.Author.Tests.{ne_eqb}
 use Rattle.base.proofs.Bools.{and_false, and_right_true}
 use Rattle.chars.proofs.Derivability.{derivable_is, not_derivable}
 use Rattle.chars.proofs.folding.is_derivable.Goals as goal
-
-pub slice_bounds-is_equivalent-end : goal.slice_bounds-is_equivalent-end
-slice_bounds-is_equivalent-end c = sym (length-take-le _ c.args.a.now (omega arith))
 
 pub returns-then-byte_at-eq47 : goal.returns-then-byte_at-eq47
 returns-then-byte_at-eq47 c =

@@ -14,13 +14,13 @@ pub loop-i-preserved : goal.loop-i-preserved
 loop-i-preserved c = (
   omega arith,
   c.loop-i.invariant.1 ∙ equivalent_at _ _ _ _ c.loop-i-test.true (omega arith)
-      c.is_same_letter.ensures ∙ rw c.if-is_same_letter.true,
+      c.is_same_letter.ensures ∙ rw c.if-not-is_same_letter.false,
 )
 
-pub returns-else-is_same_letter : goal.returns-else-is_same_letter
-returns-else-is_same_letter c =
+pub returns-then-not-is_same_letter : goal.returns-then-not-is_same_letter
+returns-then-not-is_same_letter c =
     sym (c.loop-i.invariant.1 ∙ equivalent_at _ _ _ _ c.loop-i-test.true (omega arith)
-    c.is_same_letter.ensures ∙ rw c.if-is_same_letter.false)
+    c.is_same_letter.ensures ∙ rw c.if-not-is_same_letter.true)
 
 pub returns : goal.returns
 returns c = sym (c.loop-i.invariant.1 ∙ equivalent_end _ _ _ c.loop-i-test.false (omega arith))

@@ -6,6 +6,3 @@ use Rattle.chars.proofs.search.find_past.Given as goal
 
 abbrev pub invariant-loop-i : goal.invariant-loop-i
 invariant-loop-i l = (l.i ≤ length l.s) × (after_last l.b l.s ≡ after_last l.b (take l.i l.s))
-
-abbrev pub decreases-loop-i : goal.decreases-loop-i
-decreases-loop-i l = l.i

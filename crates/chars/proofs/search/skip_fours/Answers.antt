@@ -1,13 +1,7 @@
-use mathlib.Core.Path.{refl, sym, ◌∙◌}
+use mathlib.Core.Path.{sym, ◌∙◌}
 use native.Mathlib.Omega.{arith}
 use Rattle.chars.proofs.Searches.{index_miss, index_miss2, index_miss3, index_miss4}
 use Rattle.chars.proofs.search.skip_fours.Goals as goal
-
-pub loop-i-init : goal.loop-i-init
-loop-i-init c = (omega arith, refl)
-
-pub returns-then-s-i : goal.returns-then-s-i
-returns-then-s-i c = c.loop-i.invariant.1
 
 pub returns-then-s-i-2 : goal.returns-then-s-i-2
 returns-then-s-i-2 c = sym (index_miss _ _ _ (omega arith) c.if-s-i.false) ∙ c.loop-i.invariant.1
@@ -23,6 +17,3 @@ loop-i-preserved c = (
   omega arith,
   sym (index_miss4 _ _ _ c.if-s-i.false c.if-s-i-2.false c.if-s-i-3.false c.if-s-i-4.false (omega arith)) ∙ c.loop-i.invariant.1,
 )
-
-pub returns : goal.returns
-returns c = c.loop-i.invariant.1

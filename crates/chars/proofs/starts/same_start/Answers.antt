@@ -1,28 +1,14 @@
-use mathlib.Core.Path.{refl, sym, ◌∙◌}
+use mathlib.Core.Path.{◌≡◌, sym, ◌∙◌}
+use Prim.Native.Nat.{◌+◌, ◌*◌}
 use native.Mathlib.Omega.{arith}
-use Rattle.chars.specs.Comparing.{in_case}
-use Rattle.chars.proofs.SameStarts.{same_eight_eq, take_longer}
+use Rattle.chars.proofs.SameStarts.{agree_eq, take_longer}
 use Rattle.chars.proofs.starts.same_start.Goals as goal
 
-pub loop-i-init : goal.loop-i-init
-loop-i-init c = (omega arith, c.smaller-n.ensures.1, c.smaller-n.ensures.2, refl)
-
-pub agree-requires : goal.agree-requires
-agree-requires c = (omega arith, omega arith)
-
-pub loop-i-preserved : goal.loop-i-preserved
-loop-i-preserved c = (
-  omega arith,
-  omega arith,
-  omega arith,
-  take_longer (in_case c.args.folded) c.args.a.now c.args.b.now
-      c.loop-i.i 8 c.loop-i.invariant.3
-      (same_eight_eq c.args.folded c.args.a.now c.args.b.now c.loop-i.i
-      (sym c.agree.ensures ∙ c.if-agree.true)),
-)
-
-pub returns-else-agree : goal.returns-else-agree
-returns-else-agree c = (omega arith, omega arith, c.loop-i.invariant.3)
-
-pub returns : goal.returns
-returns c = (omega arith, omega arith, c.loop-i.invariant.3)
+pub loop-k-preserved : goal.loop-k-preserved
+loop-k-preserved g c =
+    let k = c.loop-k.k in
+    let next : 8 * (k + 1) ≡ 8 * k + 8 = omega arith in
+    let read = g.C.Case.read in
+    let a = c.args.a.now in
+    let b = c.args.b.now in
+    (c.loop-k.invariant.0, c.loop-k.invariant.1, rw next (take_longer read a b (8 * k) 8 c.loop-k.invariant.2 (agree_eq read a b (8 * k) (sym c.agree.ensures ∙ c.if-not-agree.false))))

@@ -2,20 +2,20 @@ use Rattle.iri.specs.References.{resolve, resolve_reference}
 use Rattle.output.proofs.Answering.{answer_refused, fitted_short, fitted_bytes}
 use Rattle.iri.proofs.Transforms.{reference_base, reference_no, reference_text, judged_few}
 use mathlib.Core.List.{[]}
-use native.Mathlib.Omega.{arith}
+use Rattle.output.specs.declared.refusals.Refusal.TheVariants.{BadTarget}
 use mathlib.Core.Bool.{not}
 use mathlib.Core.Path.{ap}
 use Rattle.iri.proofs.references.resolve_reference.Goals as goal
 
 pub returns-then-not-is_package_iri : goal.returns-then-not-is_package_iri
 returns-then-not-is_package_iri c =
-    answer_refused (resolve_reference c.args.base.now c.args.reference.now) 9 c.args.out.now (omega arith)
+    answer_refused (resolve_reference c.args.base.now c.args.reference.now) BadTarget c.args.out.now
     (reference_base c.args.base.now c.args.reference.now _ c.is_package_iri.ensures
     (ap not c.if-not-is_package_iri.true))
 
 pub returns-then-not-is_iri : goal.returns-then-not-is_iri
 returns-then-not-is_iri c =
-    answer_refused (resolve_reference c.args.base.now c.args.reference.now) 9 c.args.out.now (omega arith)
+    answer_refused (resolve_reference c.args.base.now c.args.reference.now) BadTarget c.args.out.now
     (reference_no c.args.base.now c.args.reference.now _ c.is_package_iri.ensures
     (ap not c.if-not-is_package_iri.false) _ c.is_iri.ensures (ap not c.if-not-is_iri.true))
 

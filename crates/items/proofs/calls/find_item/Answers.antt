@@ -1,31 +1,33 @@
 use mathlib.Core.Path.{refl}
+use native.Mathlib.Omega.{arith}
 use Rattle.model.specs.Calls.{Looks, Find}
-use Rattle.items.proofs.Looking.{asked_is, find_refused, find_missing, find_found}
+use Rattle.items.proofs.Looking.{asked_few, find_refused, find_missing, find_found}
+use Rattle.output.proofs.Answering.{refused_on}
 use Rattle.contract.proofs.Opening.{turned_away_lem, let_in}
 use Rattle.items.proofs.calls.find_item.Goals as goal
 
-pub returns-then-k-ne0 : goal.returns-then-k-ne0
-returns-then-k-ne0 c = turned_away_lem _ (Looks (Find _)) _ refl c.opened-k.ensures c.if-k-ne0.true
+pub returns-in_err-check_package : goal.returns-in_err-check_package
+returns-in_err-check_package c = rw (refused_on _ _ c.from_residual.ensures.1)
+    (turned_away_lem _ (Looks (Find _)) _ refl c.in_err-check_package.ensures)
+
+pub returns-in_err-wanted : goal.returns-in_err-wanted
+returns-in_err-wanted c = rw (refused_on _ _ c.from_residual-in_err-wanted.ensures.1)
+    (find_refused _ (let_in _ c.in_ok-check_package.ensures) _ _ c.in_err-wanted.ensures)
 
 pub item_row-r-requires : goal.item_row-r-requires
 item_row-r-requires c =
-    let opened = c.opened-k in
-    let named = asked_is _ _ c.asked.ensures _ _ c.in-Named.is in
-    record { shape = ((let_in _ _ opened.ensures c.if-k-ne0.false).shape, named.0); n_value = (named.1, named.2) }
+    let named = c.in_ok-wanted.ensures in
+    record {
+      shape = ((let_in _ c.in_ok-check_package.ensures).shape, omega (arith, named.0, asked_few _ named.2));
+      n_value = (named.0, named.1);
+    }
 
 pub returns-then-r-count : goal.returns-then-r-count
 returns-then-r-count c =
-    let opened = c.opened-k in
-    find_found _ (let_in _ _ opened.ensures c.if-k-ne0.false) _ _ c.asked.ensures _ _ c.in-Named.is _ _
+    find_found _ (let_in _ c.in_ok-check_package.ensures) _ c.in_ok-wanted.ensures.2 _ _
     c.item_row-r.ensures c.count.ensures.0 c.if-r-count.true _ c.field.ensures.2
 
-pub returns-in-Refused : goal.returns-in-Refused
-returns-in-Refused c =
-    let opened = c.opened-k in
-    find_refused _ (let_in _ _ opened.ensures c.if-k-ne0.false) _ _ c.asked.ensures _ c.in-Refused.is
-
-pub returns-else-r-count : goal.returns-else-r-count
-returns-else-r-count c =
-    let opened = c.opened-k in
-    find_missing _ (let_in _ _ opened.ensures c.if-k-ne0.false) _ _ c.asked.ensures _ _ c.in-Named.is _ _
+pub returns : goal.returns
+returns c =
+    find_missing _ (let_in _ c.in_ok-check_package.ensures) _ c.in_ok-wanted.ensures.2 _ _
     c.item_row-r.ensures c.count.ensures.0 c.if-r-count.false

@@ -1,4 +1,3 @@
-use native.Mathlib.Omega.{arith}
 use Rattle.chars.proofs.FoldedNames.{text_is, text_folded}
 use Rattle.items.proofs.GrowingRows.{grown_all, grown_next, grown_yes, grown_none}
 use Rattle.items.proofs.clashes.has_grown.Goals as goal
@@ -13,9 +12,6 @@ pub returns-then-is_grown : goal.returns-then-is_grown
 returns-then-is_grown c =
     grown_yes _ _ _ _ c.loop-i.invariant c.loop-i-test.true c.requires.0 _ c.field.ensures.2 _
     (text_is _ _ c.requires.1 _ c.folded_text-w.ensures) _ c.is_grown.ensures c.if-is_grown.true
-
-pub overflow_add-i : goal.overflow_add-i
-overflow_add-i c = omega (arith, c.loop-i-test.true)
 
 pub loop-i-preserved : goal.loop-i-preserved
 loop-i-preserved c =

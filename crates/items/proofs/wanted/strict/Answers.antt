@@ -1,8 +1,14 @@
-use Rattle.items.proofs.Naming.{strict_refused, strict_reserved, strict_named, named_small, named_slice}
+use mathlib.Core.Path.{ap, sym, ◌∙◌}
+use Rattle.names.specs.Items.{refusal_number}
+use Rattle.names.proofs.Suffixes.{told_some}
+use Rattle.items.proofs.Naming.{refused_some, strict_refused, strict_reserved, strict_named, named_small, named_slice}
 use Rattle.items.proofs.wanted.strict.Goals as goal
 
+pub unwrap-requires : goal.unwrap-requires
+unwrap-requires c = told_some _ _ c.refusal.ensures (refused_some _ _ c.take_apart-split.ensures _ c.in_default.is)
+
 pub returns-in_default : goal.returns-in_default
-returns-in_default c = strict_refused _ _ c.take_apart-split.ensures _ _ c.in_default.is c.refusal.ensures
+returns-in_default c = strict_refused _ _ c.take_apart-split.ensures _ (sym (ap refusal_number c.unwrap.ensures) ∙ c.refusal.ensures)
 
 pub slice_bounds-is_reserved-end : goal.slice_bounds-is_reserved-end
 slice_bounds-is_reserved-end c =

@@ -14,15 +14,16 @@ blanks_end-q-requires c =
     equals_within _ _ _ c.name_end-name_end.ensures.1 c.if-name_end-at.false _ _
     c.blanks_end-e.ensures.1 c.byte_at.ensures c.if-byte_at-ne61.false
 
-pub returns-then-s-to : goal.returns-then-s-to
-returns-then-s-to c =
-    attribute_valueless _ _ _ c.name_end-name_end.ensures.1 c.if-name_end-at.false _ _
+pub returns-in_err-to : goal.returns-in_err-to
+returns-in_err-to c =
+    rw c.from_residual.ensures
+    (attribute_valueless _ _ _ c.name_end-name_end.ensures.1 c.if-name_end-at.false _ _
     c.blanks_end-e.ensures.1 c.byte_at.ensures c.if-byte_at-ne61.false _ _
-    c.blanks_end-q.ensures.1 c.value_end-to.ensures c.if-s-to.true
+    c.blanks_end-q.ensures.1 c.value_end.ensures c.in_err-to.was)
 
 pub returns : goal.returns
 returns c =
     attribute_given _ _ _ c.name_end-name_end.ensures.1 c.if-name_end-at.false _ _
     c.blanks_end-e.ensures.1 c.byte_at.ensures c.if-byte_at-ne61.false _ _
-    c.blanks_end-q.ensures.1 c.value_end-to.ensures
-    c.name_end-name_end.ensures.0.0 c.blanks_end-e.ensures.0.0 c.blanks_end-q.ensures.0.0 c.if-s-to.false
+    c.blanks_end-q.ensures.1 c.value_end.ensures
+    c.name_end-name_end.ensures.0.0 c.blanks_end-e.ensures.0.0 c.blanks_end-q.ensures.0.0 _ c.in_ok-to.was

@@ -5,7 +5,4 @@ use Rattle.markup.specs.Tags.{attributes_at, own}
 use Rattle.markup.proofs.attributes.count_own.Given as goal
 
 abbrev pub invariant-loop-k : goal.invariant-loop-k
-invariant-loop-k l = (l.i ≤ length l.s) × (l.n ≤ l.k) × (length (own (attributes_at l.count (drop l.at l.s))) ≡ l.n + length (own (attributes_at (l.count - l.k) (drop l.i l.s))))
-
-abbrev pub decreases-loop-k : goal.decreases-loop-k
-decreases-loop-k l = l.count - l.k
+invariant-loop-k l = (l.i ≤ length l.s) × (l.n ≤ l._k) × (length (own (attributes_at l.count (drop l.at l.s))) ≡ l.n + length (own (attributes_at (l.count - l._k) (drop l.i l.s))))

@@ -1,10 +1,8 @@
 use mathlib.Core.Path.{sym, ◌∙◌}
 use native.Mathlib.Omega.{arith}
-use Rattle.markup.proofs.Gaps.{came_none, came_end, came_off, came_on}
+use Rattle.std.proofs.lemmas.Result.{err_from_is_err_and}
+use Rattle.markup.proofs.Gaps.{came_end, came_off, came_on}
 use Rattle.markup.proofs.comments.between.Goals as goal
-
-pub loop-at-init : goal.loop-at-init
-loop-at-init c = ((omega arith, omega arith), came_none _ _ _ c.requires)
 
 pub returns-then-not-stands : goal.returns-then-not-stands
 returns-then-not-stands c =
@@ -13,28 +11,17 @@ returns-then-not-stands c =
     let h = sym c.stands.ensures ∙ c.if-not-stands.true in
     record { within = (omega arith, omega arith); is = came_end _ _ _ _ e.0 e.1 _ loop.invariant.1 h }
 
-pub comment-requires : goal.comment-requires
-comment-requires c = (omega arith, sym c.stands.ensures ∙ c.if-not-stands.false)
-
-pub loop-at-smaller : goal.loop-at-smaller
-loop-at-smaller c =
-    let loop = c.loop-at in
-    let e = c.gap_end-t.ensures in
-    let h = sym c.stands.ensures ∙ c.if-not-stands.false in
-    let n = came_on _ _ _ _ e.0 e.1 _ loop.invariant.1 h _ c.comment.ensures _ c.in-At.is in
-    omega (arith, n.0)
-
 pub loop-at-preserved : goal.loop-at-preserved
 loop-at-preserved c =
     let loop = c.loop-at in
     let e = c.gap_end-t.ensures in
     let h = sym c.stands.ensures ∙ c.if-not-stands.false in
-    let n = came_on _ _ _ _ e.0 e.1 _ loop.invariant.1 h _ c.comment.ensures _ c.in-At.is in
+    let n = came_on _ _ _ _ e.0 e.1 _ loop.invariant.1 h _ c.comment.ensures _ c.in_ok-i.was in
     ((omega (arith, n.0), n.0.1), n.1)
 
-pub returns-in-Off : goal.returns-in-Off
-returns-in-Off c =
-    let loop = c.loop-at in
+pub returns-in_err-i : goal.returns-in_err-i
+returns-in_err-i c =
     let e = c.gap_end-t.ensures in
     let h = sym c.stands.ensures ∙ c.if-not-stands.false in
-    record { within = tt; is = came_off _ _ _ _ e.0 e.1 _ loop.invariant.1 h _ c.comment.ensures _ c.in-Off.is }
+    let p = err_from_is_err_and c.from_residual.result c.from_residual.ensures.1 in
+    rw (p.1, p.2) (record { within = tt; is = came_off _ _ _ _ e.0 e.1 _ c.loop-at.invariant.1 h _ c.comment.ensures _ c.in_err-i.was })

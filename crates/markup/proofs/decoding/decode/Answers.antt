@@ -1,29 +1,29 @@
-use mathlib.Core.Path.{refl, ◌∙◌}
-use native.Mathlib.Omega.{arith}
-use lib.ListN.{length-set}
+use Rattle.std.proofs.Common.{refl, ◌≡◌, ◌∙◌, length-set, arith}
 use Rattle.markup.proofs.Decodings.{decode_next, decoded_full, decoded_all}
 use Rattle.markup.proofs.decoding.decode.Goals as goal
 
-pub loop-i-init : goal.loop-i-init
-loop-i-init c = (omega arith, omega arith, c.requires, refl)
+pub loop-n-init : goal.loop-n-init
+loop-n-init c = (omega arith, c.requires, refl)
 
-pub returns-then-n-eq-FIELD_SIZE : goal.returns-then-n-eq-FIELD_SIZE
-returns-then-n-eq-FIELD_SIZE c =
-    let inv = c.loop-i.invariant in
-    decoded_full _ _ c.loop-i.i _ inv.2 inv.1 inv.3 c.if-n-eq-FIELD_SIZE.true
+pub returns-then-s-i : goal.returns-then-s-i
+returns-then-s-i c =
+    let inv = c.loop-n.invariant in
+    decoded_all _ _ _ _ inv.1 (omega arith) inv.2 c.if-s-i.true
 
 pub unit_at-u-requires : goal.unit_at-u-requires
-unit_at-u-requires c = c.loop-i-test.true
+unit_at-u-requires c = c.if-s-i.false
 
-pub loop-i-preserved : goal.loop-i-preserved
-loop-i-preserved c =
-    let inv = c.loop-i.invariant in
+pub loop-n-preserved : goal.loop-n-preserved
+loop-n-preserved c =
+    let inv = c.loop-n.invariant in
     let e = c.unit_at-u.ensures in (
       e.2,
-      omega (arith, inv.1, c.if-n-eq-FIELD_SIZE.false),
-      length-set c.loop-i.out c.loop-i.n _ ∙ inv.2,
-      decode_next _ _ _ _ inv.2 inv.1 inv.3 _ _ c.loop-i-test.true (omega (arith, inv.1, c.if-n-eq-FIELD_SIZE.false)) e,
+      length-set c.loop-n.out c.loop-n.n _ ∙ inv.1,
+      decode_next _ _ _ _ inv.1 (omega arith) inv.2 _ _ c.if-s-i.false (omega arith) e,
     )
 
 pub returns : goal.returns
-returns c = let inv = c.loop-i.invariant in decoded_all _ _ _ _ inv.2 inv.1 inv.3 c.loop-i-test.false
+returns c =
+    let inv = c.loop-n.invariant in
+    let full : c.loop-n.n ≡ 256 = omega arith in
+    decoded_full _ _ c.loop-n.i c.loop-n.n inv.1 (omega arith) inv.2 full

@@ -4,17 +4,19 @@ use Rattle.markup.proofs.entries.typed.Goals as goal
 pub returns-then-count_own-ne2 : goal.returns-then-count_own-ne2
 returns-then-count_own-ne2 c = typed_miscounted _ c.args.default _ _ _ c.count_own.ensures c.if-count_own-ne2.true
 
-pub returns-in_default : goal.returns-in_default
-returns-in_default c =
-    typed_keyless _ c.args.default _ _ _ c.count_own.ensures c.if-count_own-ne2.false
-    _ c.find_value.ensures c.in_default.is
+pub returns-in_err-key : goal.returns-in_err-key
+returns-in_err-key c =
+    rw c.from_residual.ensures
+    (typed_keyless _ c.args.default _ _ _ c.count_own.ensures c.if-count_own-ne2.false
+    _ c.find_value.ensures c.in_err-key.was)
 
-pub returns-in_default-find_value : goal.returns-in_default-find_value
-returns-in_default-find_value c =
-    typed_typeless _ c.args.default _ _ _ c.count_own.ensures c.if-count_own-ne2.false
-    _ c.find_value.ensures _ _ c.in-Is.is _ c.find_value-2.ensures c.in_default-find_value.is
+pub returns-in_err-media : goal.returns-in_err-media
+returns-in_err-media c =
+    rw c.from_residual-in_err-media.ensures
+    (typed_typeless _ c.args.default _ _ _ c.count_own.ensures c.if-count_own-ne2.false
+    _ c.find_value.ensures _ c.in_ok-key.was _ c.find_value-2.ensures c.in_err-media.was)
 
 pub returns : goal.returns
 returns c =
-    typed_is _ _ _ _ _ c.count_own.ensures c.if-count_own-ne2.false _ c.find_value.ensures _ _ c.in-Is.is
-    _ c.find_value-2.ensures _ _ c.in-Is-find_value.is
+    typed_is _ _ _ _ _ c.count_own.ensures c.if-count_own-ne2.false _ c.find_value.ensures _ c.in_ok-key.was
+    _ c.find_value-2.ensures _ c.in_ok-media.was

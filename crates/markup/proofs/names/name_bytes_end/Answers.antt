@@ -1,4 +1,5 @@
-use mathlib.Core.Path.{refl, sym, ap, ◌∙◌}
+use lib.ListN.{length}
+use mathlib.Core.Path.{◌≡◌, refl, sym, ap, ◌∙◌}
 use mathlib.Core.Bool.{not}
 use Prim.Native.Nat.{ℕ}
 use native.Mathlib.Omega.{arith}
@@ -25,4 +26,5 @@ loop-i-preserved c =
 pub returns : goal.returns
 returns c =
     let loop = c.loop-i in
-    (loop.invariant.0, sym (loop.invariant.1 ∙ first_end_lem (λ (x : ℕ). not (member Id x)) _ _ c.loop-i-test.false))
+    let all : loop.i ≡ length c.args.s.now = omega (arith, loop.invariant.0) in
+    ((c.requires, omega arith), sym (loop.invariant.1 ∙ first_end_lem (λ (x : ℕ). not (member Id x)) _ _ c.loop-i-test.false ∙ all))

@@ -1,6 +1,6 @@
 use mathlib.Core.Path.{◌≡◌}
-use Prim.Native.Nat.{◌+◌, ◌-◌}
-use lib.ListN.{length, drop}
+use Prim.Native.Nat.{◌+◌}
+use lib.ListN.{drop}
 use Rattle.chars.specs.Bytes.{member}
 use Rattle.chars.specs.Lists.{first_not}
 use Rattle.chars.specs.declared.search.Alphabet.TheVariants.{Id}
@@ -9,6 +9,3 @@ use Rattle.markup.proofs.names.name_bytes_end.Given as goal
 
 abbrev pub invariant-loop-i : goal.invariant-loop-i
 invariant-loop-i l = Reached l.s l.at l.i × (l.at + first_not (member Id) (drop l.at l.s) ≡ l.i + first_not (member Id) (drop l.i l.s))
-
-abbrev pub decreases-loop-i : goal.decreases-loop-i
-decreases-loop-i l = length l.s - l.i

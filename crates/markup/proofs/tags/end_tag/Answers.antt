@@ -1,4 +1,5 @@
 use mathlib.Core.Path.{sym, ◌∙◌}
+use Rattle.std.proofs.lemmas.Result.{err_from_is_err_and}
 use Rattle.base.specs.Buffer.{part}
 use Rattle.chars.specs.Bytes.{ascii}
 use Rattle.markup.proofs.Rests.{stands_within}
@@ -15,16 +16,18 @@ pub blanks_end-requires : goal.blanks_end-requires
 unfolding part
 blanks_end-requires c =
     (name_reached _ _ c.requires.0 _ _ c.stands.ensures c.if-not-stands.false _
-    c.expected.ensures _ c.in-At.is).1
+    c.expected.ensures _ c.in_ok-e.was).1
 
-pub returns-in-At : goal.returns-in-At
+pub returns : goal.returns
 unfolding part
-returns-in-At c =
+returns c =
     end_on _ _ c.requires.0 _ _ c.stands.ensures c.if-not-stands.false _
-    c.expected.ensures _ c.in-At.is _ c.blanks_end.ensures _ c.expected-in-At.ensures
+    c.expected.ensures _ c.in_ok-e.was _ c.blanks_end.ensures _ c.expected-2.ensures
 
-pub returns-in-Off : goal.returns-in-Off
+pub returns-in_err-e : goal.returns-in_err-e
 unfolding part
-returns-in-Off c =
-    end_off _ _ c.requires.0 _ _ c.stands.ensures c.if-not-stands.false _
-    c.expected.ensures _ c.in-Off.is
+returns-in_err-e c =
+    let p = err_from_is_err_and c.from_residual.result c.from_residual.ensures.1 in
+    rw (p.1, p.2)
+    (end_off _ _ c.requires.0 _ _ c.stands.ensures c.if-not-stands.false _
+    c.expected.ensures _ c.in_err-e.was)

@@ -1,7 +1,5 @@
 use mathlib.Core.Path.{refl, sym, ◌∙◌}
 use Prim.Native.Nat.{◌-◌}
-use native.Mathlib.Omega.{arith}
-use lib.Seq.{length-take-le}
 use Rattle.chars.proofs.Searches.{every_take_take}
 use Rattle.names.specs.PlainBytes.{plain}
 use Rattle.names.proofs.PlainBytes.{plain_bracket}
@@ -20,20 +18,11 @@ slice_bounds-byte_at-count c = last_segment_le _ _ c.find_past-p.ensures
 pub slice_bounds-byte_at-start : goal.slice_bounds-byte_at-start
 slice_bounds-byte_at-start c = last_segment_le _ _ c.find_past-p.ensures
 
-pub slice_bounds-read_suffix-count : goal.slice_bounds-read_suffix-count
-slice_bounds-read_suffix-count c = last_segment_le _ _ c.find_past-p.ensures
-
-pub slice_bounds-read_suffix-start : goal.slice_bounds-read_suffix-start
-slice_bounds-read_suffix-start c = last_segment_le _ _ c.find_past-p.ensures
-
 pub returns-in_default : goal.returns-in_default
 returns-in_default c =
     let find_past = c.find_past-p in
     sym (item_no_suffix _ _ find_past.ensures c.if-p-eq0.false _ c.byte_at.ensures c.if-byte_at-eq91.true _
     c.read_suffix-x.ensures c.in_default.is)
-
-pub slice_bounds-is_name-end : goal.slice_bounds-is_name-end
-slice_bounds-is_name-end c = sym (length-take-le _ c.args.s.now (omega (arith, last_segment_le _ _ c.find_past-p.ensures)))
 
 pub is_name-requires : goal.is_name-requires
 is_name-requires c =

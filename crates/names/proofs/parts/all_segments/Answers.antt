@@ -1,4 +1,4 @@
-use mathlib.Core.Path.{refl, sym, ◌∙◌}
+use mathlib.Core.Path.{sym, ◌∙◌}
 use mathlib.Core.List.{List}
 use Prim.Native.Nat.{ℕ, ◌≤◌, ◌<◌}
 use native.Mathlib.Nat.{le_of_lt}
@@ -26,9 +26,6 @@ pub returns-then-n-from : goal.returns-then-n-from
 unfolding split segment last_byte
 returns-then-n-from c = rw (drop_of_length-le c.args.s.now (le_of_lt c.if-n-from.true))
 
-pub loop-from-init : goal.loop-from-init
-loop-from-init c = (omega arith, refl)
-
 pub slice_bounds-is_segment-end : goal.slice_bounds-is_segment-end
 slice_bounds-is_segment-end c = ends c
 
@@ -39,12 +36,6 @@ pub returns-then-e-n : goal.returns-then-e-n
 returns-then-e-n c =
     sym (c.loop-from.invariant.1 ∙ all_last slash (S (goal.at.returns-then-e-n c).After-find-e) c.loop-from.i c.find-e.result c.find-e.ensures c.loop-from.invariant.0
     segment c.if-e-n.true (sym c.is_segment-ok.ensures ∙ c.if-ok.true))
-
-pub overflow_add-i : goal.overflow_add-i
-overflow_add-i c = omega (arith, ends (goal.at.overflow_add-i c).After-find-e)
-
-pub loop-from-smaller : goal.loop-from-smaller
-loop-from-smaller c = omega (arith, ends (goal.at.loop-from-smaller c).After-find-e)
 
 pub loop-from-preserved : goal.loop-from-preserved
 loop-from-preserved c =

@@ -1,4 +1,4 @@
-use borrow.Author.Tests.{le-leb, lt-leb, lt-ltb, ne_eqb}
+use borrow.Author.Tests.{le-leb, lt-leb, ne_eqb}
 use Rattle.base.proofs.Bools.{and_false}
 use Rattle.names.specs.Names.{part_name}
 use Rattle.names.proofs.parts.is_name.Goals as goal
@@ -10,9 +10,6 @@ returns-then-n-lt2 c = rw (lt-leb _ _ c.if-n-lt2.true)
 pub returns-then-n-gt255 : goal.returns-then-n-gt255
 unfolding part_name
 returns-then-n-gt255 c = rw (lt-leb _ _ c.if-n-gt255.true, and_false)
-
-pub all_segments-requires : goal.all_segments-requires
-all_segments-requires c = record { bytes = c.requires; table = λ l. c.lay_table.ensures.is (lt-ltb _ _ l) }
 
 pub returns-then-byte_at-eq47 : goal.returns-then-byte_at-eq47
 unfolding part_name

@@ -11,8 +11,5 @@ returns-then-n-eq0 c = rw c.if-n-eq0.true
 pub returns-then-n-known : goal.returns-then-n-known
 returns-then-n-known c = sym (segment_known _ _ _ c.requires c.if-n-eq0.false _ c.byte_at-no_dot.ensures c.if-n-known.true)
 
-pub all_units-requires : goal.all_units-requires
-all_units-requires c = c.requires.table c.if-n-known.false
-
 pub returns : goal.returns
 returns c = sym (segment_rest _ _ _ c.requires c.if-n-eq0.false _ c.byte_at-no_dot.ensures _ c.all_units.ensures)

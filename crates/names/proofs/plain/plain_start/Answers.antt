@@ -1,5 +1,5 @@
 use mathlib.Core.Path.{sym, ◌∙◌}
-use native.Mathlib.Omega.{arith}
+use native.Mathlib.Omega.{arith, min_cases}
 use Rattle.names.proofs.PlainBytes.{plain_none, plain_more}
 use Rattle.names.proofs.plain.plain_start.Goals as goal
 
@@ -10,10 +10,4 @@ pub loop-i-init : goal.loop-i-init
 loop-i-init c = (omega arith, plain_none)
 
 pub loop-i-preserved : goal.loop-i-preserved
-loop-i-preserved c = (omega arith, plain_more _ _ _ c.smaller-at.ensures.1 c.loop-i.invariant.1 (sym c.is_plain_eight.ensures ∙ c.if-is_plain_eight.true))
-
-pub returns-else-is_plain_eight : goal.returns-else-is_plain_eight
-returns-else-is_plain_eight c = c.loop-i.invariant.1
-
-pub returns : goal.returns
-returns c = c.loop-i.invariant.1
+loop-i-preserved c = (omega arith, plain_more _ _ _ (omega (arith, min_cases, c.min-at.ensures)) c.loop-i.invariant.1 (sym c.is_plain_eight.ensures ∙ c.if-is_plain_eight.true))

@@ -1,4 +1,4 @@
-use mathlib.Core.Path.{◌≡◌, refl, sym, ap, ◌∙◌}
+use mathlib.Core.Path.{◌≡◌, sym, ap, ◌∙◌}
 use mathlib.Core.List.{List}
 use Rattle.chars.specs.declared.units.Grammar.{Grammar}
 use Prim.Native.Nat.{ℕ, ◌≤◌, ◌+◌}
@@ -30,9 +30,6 @@ here a = sym (a.unit_len-n.ensures ∙ ap (unit (G a)) (take_rest (S a) (I a)))
 fits : (a : After) → I a + a.unit_len-n.result ≤ length (S a)
 fits a = omega (arith, here a, unit_le (G a) (drop (I a) (S a)), length-drop (I a) (S a), a.loop-i-test.true)
 
-pub loop-i-init : goal.loop-i-init
-loop-i-init c = (omega arith, refl)
-
 pub returns-then-n-eq0 : goal.returns-then-n-eq0
 returns-then-n-eq0 c =
     sym (c.loop-i.invariant.1 ∙ tiled_stop (unit (G (goal.at.returns-then-n-eq0 c).After-unit_len-n)) (S (goal.at.returns-then-n-eq0 c).After-unit_len-n) (I (goal.at.returns-then-n-eq0 c).After-unit_len-n) c.loop-i-test.true
@@ -40,9 +37,6 @@ returns-then-n-eq0 c =
 
 pub overflow_add-i : goal.overflow_add-i
 overflow_add-i c = omega (arith, fits (goal.at.overflow_add-i c).After-unit_len-n)
-
-pub loop-i-smaller : goal.loop-i-smaller
-loop-i-smaller c = omega (arith, fits (goal.at.loop-i-smaller c).After-unit_len-n)
 
 pub loop-i-preserved : goal.loop-i-preserved
 loop-i-preserved c = (

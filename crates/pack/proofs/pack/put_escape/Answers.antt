@@ -1,47 +1,33 @@
-use Rattle.chars.specs.Bytes.{percent, colon, slash}
-use Rattle.iri.specs.Components.{question, at_sign, comma}
+use native.Mathlib.Omega.{arith}
 use Rattle.pack.specs.Pack.{escape}
-use Rattle.pack.proofs.Escapes.{escape_at, escape_same}
+use Rattle.pack.proofs.Escapes.{escape_same}
 use Rattle.pack.proofs.pack.put_escape.Goals as goal
 
-pub returns-then-b-eq37 : goal.returns-then-b-eq37
+pub returns-in-37 : goal.returns-in-37
 unfolding escape
-returns-then-b-eq37 c =
-    let args = c.args in
-    rw (escape_at args.b percent c.if-b-eq37.true) c.emit.ensures
+returns-in-37 c = rw c.in-37.is c.emit.ensures
 
-pub returns-then-b-eq63 : goal.returns-then-b-eq63
+pub returns-in-63 : goal.returns-in-63
 unfolding escape
-returns-then-b-eq63 c =
-    let args = c.args in
-    rw (escape_at args.b question c.if-b-eq63.true) c.emit-then-b-eq63.ensures
+returns-in-63 c = rw c.in-63.is c.emit-in-63.ensures
 
-pub returns-then-b-eq64 : goal.returns-then-b-eq64
+pub returns-in-64 : goal.returns-in-64
 unfolding escape
-returns-then-b-eq64 c =
-    let args = c.args in
-    rw (escape_at args.b at_sign c.if-b-eq64.true) c.emit-then-b-eq64.ensures
+returns-in-64 c = rw c.in-64.is c.emit-in-64.ensures
 
-pub returns-then-b-eq58 : goal.returns-then-b-eq58
+pub returns-in-58 : goal.returns-in-58
 unfolding escape
-returns-then-b-eq58 c =
-    let args = c.args in
-    rw (escape_at args.b colon c.if-b-eq58.true) c.emit-then-b-eq58.ensures
+returns-in-58 c = rw c.in-58.is c.emit-in-58.ensures
 
-pub returns-then-b-eq44 : goal.returns-then-b-eq44
+pub returns-in-44 : goal.returns-in-44
 unfolding escape
-returns-then-b-eq44 c =
-    let args = c.args in
-    rw (escape_at args.b comma c.if-b-eq44.true) c.emit-then-b-eq44.ensures
+returns-in-44 c = rw c.in-44.is c.emit-in-44.ensures
 
-pub returns-then-b-eq47 : goal.returns-then-b-eq47
+pub returns-in-47 : goal.returns-in-47
 unfolding escape
-returns-then-b-eq47 c =
-    let args = c.args in
-    rw (escape_at args.b slash c.if-b-eq47.true) c.emit-then-b-eq47.ensures
+returns-in-47 c = rw c.in-47.is c.emit-in-47.ensures
 
-pub returns : goal.returns
-returns c =
-    let args = c.args in
-    rw (escape_same args.b c.if-b-eq37.false c.if-b-eq63.false c.if-b-eq64.false c.if-b-eq58.false c.if-b-eq44.false
-    c.if-b-eq47.false) c.emit-2.ensures
+pub returns-in_default : goal.returns-in_default
+returns-in_default c =
+    rw (escape_same c.args.b (λ e. omega arith) (λ e. omega arith) (λ e. omega arith) (λ e. omega arith) (λ e. omega arith)
+    (λ e. omega arith)) c.emit-in_default.ensures

@@ -1,12 +1,9 @@
 use native.Mathlib.Omega.{arith}
-use Rattle.pack.proofs.Composing.{unfragmented_length, unfragmented_few, head_end_few, pack_none, pack_sent}
+use Rattle.pack.proofs.Composing.{unfragmented_length, head_end_few, pack_none, pack_sent}
 use Rattle.pack.proofs.pack.put_pack_iri.Goals as goal
 
 pub slice_bounds-put_authority-end : goal.slice_bounds-put_authority-end
 slice_bounds-put_authority-end c = unfragmented_length c.args.p.now c.args.path.now c.requires.0 c.requires.1 _ c.find-k.ensures
-
-pub put_authority-a-requires : goal.put_authority-a-requires
-put_authority-a-requires c = unfragmented_few c.args.p.now c.args.path.now c.requires.0 c.requires.1 _ c.find-k.ensures
 
 pub overflow_add-need : goal.overflow_add-need
 overflow_add-need c =
@@ -21,9 +18,6 @@ returns-then-out-need c =
 
 pub slice_bounds-put_authority-end-4 : goal.slice_bounds-put_authority-end-4
 slice_bounds-put_authority-end-4 c = unfragmented_length c.args.p.now c.args.path.now c.requires.0 c.requires.1 _ c.find-k.ensures
-
-pub put_authority-requires : goal.put_authority-requires
-put_authority-requires c = unfragmented_few c.args.p.now c.args.path.now c.requires.0 c.requires.1 _ c.find-k.ensures
 
 pub returns : goal.returns
 returns c =

@@ -1,36 +1,20 @@
 use Prim.Native.Nat.{◌-◌, ◌+◌}
 use native.Mathlib.Omega.{arith}
+use Rattle.output.specs.declared.refusals.Refusal.TheVariants.{BadTarget}
 use lib.ListN.{drop}
-use borrow.Author.Rules.{rules}
 use Rattle.pack.specs.Pack.{resolve_pack}
 use Rattle.base.proofs.Lists.{length_take_few}
 use Rattle.pack.proofs.Locating.{located_refused}
-use Rattle.pack.proofs.Resolving.{package_end_length, pack_refused, part_end_le, part_end_few, package_end_few, pack_short, pack_found}
+use Rattle.pack.proofs.Resolving.{package_end_length, pack_refused, part_end_few, package_end_few, pack_short, pack_found}
 use mathlib.Core.Bool.{not}
 use mathlib.Core.Path.{ap}
 use Rattle.pack.proofs.pack.resolve_at.Goals as goal
 
-pub slice_bounds-is_unfragmented-end : goal.slice_bounds-is_unfragmented-end
-slice_bounds-is_unfragmented-end c = package_end_length c.args.s.now _ _ c.requires _ _ c.decode-k.ensures c.decode-k.auto.out
-
 pub returns-then-not-is_unfragmented : goal.returns-then-not-is_unfragmented
 returns-then-not-is_unfragmented c =
-    located_refused (resolve_pack c.args.s.now) 9 c.args.out.now (omega arith)
+    located_refused (resolve_pack c.args.s.now) BadTarget c.args.out.now
     (pack_refused c.args.s.now _ _ c.requires _ _ c.decode-k.ensures c.decode-k.auto.out _
     c.is_unfragmented.ensures (ap not c.if-not-is_unfragmented.true))
-
-pub overflow_add-e : goal.overflow_add-e
-overflow_add-e c =
-    let l = part_end_le c.args.s.now _ _ c.requires _ _ c.decode-k.ensures c.decode-k.auto.out _
-    c.is_unfragmented.ensures (ap not c.if-not-is_unfragmented.false) _ c.part_len-m.ensures in
-    omega arith
-
-pub overflow_add-need : goal.overflow_add-need
-overflow_add-need c =
-    let l = part_end_few c.args.s.now _ _ c.requires _ _ c.decode-k.ensures c.decode-k.auto.out _
-    c.is_unfragmented.ensures (ap not c.if-not-is_unfragmented.false) _ c.part_len-m.ensures in
-    let g = package_end_few c.args.s.now _ _ c.requires _ _ c.decode-k.ensures c.decode-k.auto.out in
-    omega arith
 
 pub returns-then-out-need : goal.returns-then-out-need
 returns-then-out-need c =
@@ -38,32 +22,11 @@ returns-then-out-need c =
     c.is_unfragmented.ensures (ap not c.if-not-is_unfragmented.false) _ c.part_len-m.ensures c.args.out.now
     c.if-out-need.true
 
-pub slice_bounds-emit-end : goal.slice_bounds-emit-end
-slice_bounds-emit-end c = package_end_length c.args.s.now _ _ c.requires _ _ c.decode-k.ensures c.decode-k.auto.out
-
-pub emit-at-requires : goal.emit-at-requires
-emit-at-requires c = (
-  omega arith,
-  omega (
-    arith,
-    package_end_few c.args.s.now _ _ c.requires _ _ c.decode-k.ensures
-        c.decode-k.auto.out,
-    package_end_length c.args.s.now _ _ c.requires _ _ c.decode-k.ensures
-        c.decode-k.auto.out,
-  ),
-)
-
-pub slice_bounds-emit-end-2 : goal.slice_bounds-emit-end-2
-slice_bounds-emit-end-2 c =
-    let l = part_end_le c.args.s.now _ _ c.requires _ _ c.decode-k.ensures c.decode-k.auto.out _
-    c.is_unfragmented.ensures (ap not c.if-not-is_unfragmented.false) _ c.part_len-m.ensures in
-    search rules
-
 pub emit-requires : goal.emit-requires
 emit-requires c =
     let l = part_end_few c.args.s.now _ _ c.requires _ _ c.decode-k.ensures c.decode-k.auto.out _
     c.is_unfragmented.ensures (ap not c.if-not-is_unfragmented.false) _ c.part_len-m.ensures in
-    let y = c.args.y in
+    let y = c.args.place.to in
     let m = c.part_len-m.result in (
       omega (
         arith,

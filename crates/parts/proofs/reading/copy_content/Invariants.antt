@@ -1,4 +1,3 @@
-use Prim.Native.Nat.{◌-◌}
 use mathlib.Core.Path.{◌≡◌}
 use lib.ListN.{length}
 use Rattle.parts.specs.Copies.{Copying}
@@ -6,6 +5,3 @@ use Rattle.parts.proofs.reading.copy_content.Given as goal
 
 abbrev pub invariant-loop-i : goal.invariant-loop-i
 invariant-loop-i l = (length l.out ≡ length l.initial.out) × Copying l.pkg l.from l.to l.offset l.initial.out l.i l.at l.skip l.out
-
-abbrev pub decreases-loop-i : goal.decreases-loop-i
-decreases-loop-i l = l.to - l.i

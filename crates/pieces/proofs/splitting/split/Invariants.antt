@@ -4,6 +4,3 @@ use Rattle.pieces.proofs.splitting.split.Given as goal
 
 abbrev pub invariant-loop-k : goal.invariant-loop-k
 invariant-loop-k l = (1 ≤ l.k) × (l.k ≤ l.n) × Dividing l.initial.pkg l.pkg l.r l.p l.n l.q l.rest l.k
-
-abbrev pub decreases-loop-k : goal.decreases-loop-k
-decreases-loop-k l = l.k

@@ -1,13 +1,14 @@
+use mathlib.Core.Path.{refl}
+use Rattle.output.proofs.Answering.{refused_on}
 use Rattle.reading.proofs.ReadRuns.{none_took, all_took}
 use Rattle.reading.proofs.typed.take_types.Goals as goal
 
-pub returns-then-k-ne0 : goal.returns-then-k-ne0
-returns-then-k-ne0 c = none_took c.judge_all-k.ensures c.if-k-ne0.true
+pub returns-in_err-check_all : goal.returns-in_err-check_all
+returns-in_err-check_all c = rw (refused_on _ _ c.from_residual.ensures.1) (none_took _ c.in_err-check_all.ensures)
 
 pub add_all-requires : goal.add_all-requires
 add_all-requires c =
-    let given = c.requires in
-    record { places_len = (given.shape.1, given.accepted); all_fielded = c.judge_all-k.ensures.fielded c.if-k-ne0.false }
+    record { placed = c.requires.placed; all_fielded = c.in_ok-check_all.ensures.fielded refl }
 
 pub returns : goal.returns
-returns c = all_took c.judge_all-k.ensures c.if-k-ne0.false c.add_all.ensures
+returns c = all_took c.in_ok-check_all.ensures c.add_all.ensures

@@ -1,16 +1,14 @@
+use mathlib.Core.Path.{◌≡◌, ap, ◌∙◌}
+use Prim.Native.Nat.{◌/◌, ◌%◌}
 use native.Mathlib.Omega.{arith}
-use lib.ListN.{length-set}
-use Rattle.store.proofs.Numbers.{put4_stores}
+use Rattle.base.specs.Buffer.{splice}
+use Rattle.store.specs.Buffer.{le4}
 use Rattle.store.proofs.bytes.put4.Goals as goal
 
-pub bounds-pkg-at-2 : goal.bounds-pkg-at-2
-bounds-pkg-at-2 c = simp length-set (omega arith)
-
-pub bounds-pkg-at-3 : goal.bounds-pkg-at-3
-bounds-pkg-at-3 c = simp length-set (omega arith)
-
-pub bounds-pkg-at-4 : goal.bounds-pkg-at-4
-bounds-pkg-at-4 c = simp length-set (omega arith)
-
 pub returns : goal.returns
-returns c = put4_stores _ _ _ (omega arith)
+unfolding le4
+returns c =
+    let a = c.args in
+    let e2 : a.v / 65536 % 256 ≡ a.v / 256 / 256 % 256 = omega arith in
+    let e3 : a.v / 16777216 % 256 ≡ a.v / 256 / 256 / 256 % 256 = omega arith in
+    c.copy_in.ensures ∙ ap (splice a.pkg.now a.at) (c.to_le_bytes.ensures ∙ rw (e2, e3))

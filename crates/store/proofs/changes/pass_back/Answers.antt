@@ -2,7 +2,6 @@ use mathlib.Core.Path.{◌≡◌}
 use Prim.Native.Nat.{ℕ, ◌+◌, ◌-◌, ◌≤◌}
 use native.Mathlib.Omega.{arith}
 use borrow.Author.Rules.{rules}
-use Rattle.store.proofs.Lasting.{no_gap}
 use Rattle.store.proofs.PassedSlots.{pass_enough, pass_used}
 use Rattle.store.proofs.Passed.{passed_on}
 use Rattle.store.proofs.changes.pass_back.Goals as goal
@@ -12,21 +11,6 @@ returns-then-from-n c = record { is = λ so en eu last cl pa. absurd (omega (ari
 
 pub returns-then-u-to : goal.returns-then-u-to
 returns-then-u-to c = record { is = λ so en eu last cl pa. absurd (omega (arith, c.if-u-to.true, eu, pass_used _ _ _ _ _ _ so pa c.number-from.ensures.0 c.number-to.ensures.0)) }
-
-pub returns-then-e-s : goal.returns-then-e-s
-returns-then-e-s c =
-    record {
-      is = λ so en eu last cl pa. absurd (omega (arith, c.if-e-s.true, so.inside _ pa.from, c.size.ensures.0, c.offset.ensures.0, c.get4-e.ensures.0));
-    }
-
-pub returns-then-h-e : goal.returns-then-h-e
-returns-then-h-e c =
-    record {
-      is = λ so en eu last cl pa. absurd (omega (arith, c.if-h-e.true, so.shape.within, c.get4-e.ensures, c.heap_size-h.ensures));
-    }
-
-pub returns-then-h-e-2 : goal.returns-then-h-e-2
-returns-then-h-e-2 c = record { is = λ so en eu last cl pa. absurd (no_gap _ _ _ _ _ _ cl c.get4-e.ensures.0 eu c.heap_size-h.ensures (omega arith) c.if-h-e-2.true) }
 
 pub returns : goal.returns
 returns c =

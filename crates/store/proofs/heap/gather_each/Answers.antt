@@ -1,35 +1,21 @@
+use Prim.Native.Nat.{◌<◌}
 use native.Mathlib.Omega.{arith}
-use Rattle.store.proofs.Gathering.{gather_none, gather_some, gather_more, gather_all}
+use Rattle.store.specs.Places.{Settled}
+use Rattle.store.proofs.Gathering.{gather_none, gather_more, gather_all}
 use Rattle.store.proofs.heap.gather_each.Goals as goal
 
 pub loop-r-init : goal.loop-r-init
-loop-r-init c = (omega arith, omega arith, c.lowest-r.ensures, (λ so. gather_none _ so))
-
-pub settle-k-requires : goal.settle-k-requires
-settle-k-requires c = omega (arith, c.loop-r.invariant.2.above c.loop-r-test.true)
-
-pub returns-then-k-eq0 : goal.returns-then-k-eq0
-returns-then-k-eq0 c so =
-    let inv = c.loop-r.invariant in
-    let pre = c.requires in
-    let taken = c.loop-r-test.true in
-    let h = gather_some _ _ _ _ _ _ _ _ (inv.3 so) pre.1 pre.2 pre.3 inv.1 inv.2 taken c.settle-k.ensures in
-    absurd (omega (arith, c.if-k-eq0.true))
+loop-r-init c = (omega arith, (λ so. gather_none _ so))
 
 pub loop-r-preserved : goal.loop-r-preserved
 loop-r-preserved c =
-    let inv = c.loop-r.invariant in
     let pre = c.requires in
-    let taken = c.loop-r-test.true in (
-      omega arith,
-      omega arith,
-      c.lowest-r-in-loop-r.ensures,
-      (λ so. gather_more _ _ _ _ _ _ _ _ (inv.3 so) pre.1 pre.2 pre.3 inv.1 inv.2 taken c.settle-k.ensures),
-    )
+    let inv = c.loop-r.invariant in
+    let s : (0 < c.in-Some-settle.k) × Settled c.loop-r.pkg c.settle.new.pkg c.in-Some.r c.loop-r.c c.args.e c.in-Some-settle.k = c.in-Some-settle.ensures in
+    (s.1.fits, (λ so. gather_more _ _ _ _ _ _ _ _ (inv.1 so) pre.1 pre.2 pre.3 inv.0 c.in-Some.ensures s.1))
 
 pub returns : goal.returns
 returns c so =
-    let inv = c.loop-r.invariant in
     let pre = c.requires in
-    gather_all _ _ _ _ _ _ _ (inv.3 so) pre.1 pre.2 pre.3 inv.1 inv.2 c.loop-r-test.false
-    c.put4.ensures
+    let inv = c.loop-r.invariant in
+    gather_all _ _ _ _ _ _ (inv.1 so) pre.1 pre.2 pre.3 inv.0 c.in_default.ensures c.put4.ensures

@@ -10,4 +10,4 @@ pub returns : goal.returns
 returns c so =
     remove_is _ _ _ _ _ _ _ c.requires.r_bound c.get4-n.ensures.0 c.get4-u.ensures c.get4-e.ensures
     c.offset-o.ensures.0 c.size-k.ensures.0 so _ _ _ c.end_without.ensures
-    c.move_down.ensures c.put_counts.ensures
+    c.shift.ensures c.put_counts.ensures

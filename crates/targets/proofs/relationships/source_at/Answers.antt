@@ -1,13 +1,14 @@
 use Prim.Native.Nat.{◌-◌}
 use mathlib.Core.Path.{sym, refl, ◌∙◌, ap}
 use native.Mathlib.Omega.{arith}
+use Rattle.output.specs.declared.refusals.Refusal.TheVariants.{NotAPartName}
 use lib.ListN.{length}
 use lib.Seq.{length-take-le}
 use borrow.Author.Rules.{rules}
 use Rattle.output.specs.Answers.{Outcome, written}
 use Rattle.targets.specs.Relationships.{source_part}
 use Rattle.base.proofs.Lists.{length_take_le_length, length_part_le}
-use Rattle.output.proofs.Answering.{answer_refused}
+use Rattle.output.proofs.Answering.{answer_refused, err_some, err_none}
 use Rattle.targets.proofs.Sources.{last_slash, last_five, segment_le, source_length, back_refused, back_text}
 use Rattle.targets.proofs.relationships.source_at.Goals as goal
 
@@ -53,18 +54,18 @@ slice_bounds-source-end c =
     source_length c.args.s.now c.requires.0 _ c.find_past-q.ensures _ c.find_past-p.ensures
     c.requires.1 _ _ _ _ _ c.emit-a.ensures c.emit-a.auto.out c.emit-k.ensures c.emit-k.auto.out refl
 
-pub slice_bounds-source_refusal-end : goal.slice_bounds-source_refusal-end
-slice_bounds-source_refusal-end c =
+pub slice_bounds-check_source-end : goal.slice_bounds-check_source-end
+slice_bounds-check_source-end c =
     sym (length-take-le _ _ (source_length c.args.s.now c.requires.0 _ c.find_past-q.ensures _
     c.find_past-p.ensures c.requires.1 _ _ _ _ _ c.emit-a.ensures c.emit-a.auto.out
     c.emit-k.ensures c.emit-k.auto.out refl))
 
-pub returns-then-source_refusal-ne0 : goal.returns-then-source_refusal-ne0
-returns-then-source_refusal-ne0 c =
-    answer_refused (source_part c.args.s.now) 4 c.args.out.now (omega arith)
+pub returns-then-is_err : goal.returns-then-is_err
+returns-then-is_err c =
+    answer_refused (source_part c.args.s.now) NotAPartName c.args.out.now
     (back_refused c.args.s.now c.requires.0 _ c.find_past-q.ensures _ c.find_past-p.ensures
     c.requires.1 _ _ _ _ _ c.emit-a.ensures c.emit-a.auto.out c.emit-k.ensures c.emit-k.auto.out refl
-    _ c.source_refusal.ensures c.if-source_refusal-ne0.true)
+    _ c.check_source.ensures (err_some _ (sym c.is_err.ensures.value ∙ c.if-is_err.true)))
 
 pub slice_bounds-source-end-2 : goal.slice_bounds-source-end-2
 slice_bounds-source-end-2 c =
@@ -82,4 +83,4 @@ returns c =
     c.put_text.ensures ∙ ap (λ (o : Outcome). written o c.args.out.now)
     (sym (back_text c.args.s.now c.requires.0 _ c.find_past-q.ensures _ c.find_past-p.ensures
     c.requires.1 _ _ _ _ _ c.emit-a.ensures c.emit-a.auto.out c.emit-k.ensures c.emit-k.auto.out refl
-    _ c.source_refusal.ensures c.if-source_refusal-ne0.false))
+    _ c.check_source.ensures (err_none _ (sym c.is_err.ensures.value ∙ c.if-is_err.false))))

@@ -6,11 +6,8 @@ use mathlib.Core.Bool.{not}
 use Rattle.targets.proofs.targets.resolve_name.Goals as goal
 
 pub returns-then-not-is_internal : goal.returns-then-not-is_internal
-returns-then-not-is_internal c = (
-  target_no c.args.source.now c.args.target.now _ c.is_internal.ensures (ap not c.if-not-is_internal.true),
-  λ e.
-      absurd (omega arith),
-)
+returns-then-not-is_internal c =
+    target_no c.args.source.now c.args.target.now _ c.is_internal.ensures (ap not c.if-not-is_internal.true)
 
 pub relative_path-k-requires : goal.relative_path-k-requires
 relative_path-k-requires c = (
@@ -45,11 +42,9 @@ slice_bounds-is_part_name-end-2 c =
     )))
 
 pub returns-then-not-is_part_name : goal.returns-then-not-is_part_name
-returns-then-not-is_part_name c = (
-  target_none c.args.source.now c.args.target.now _ c.is_internal.ensures (ap not c.if-not-is_internal.false) _ _
-      c.relative_path-k.ensures _ c.is_part_name.ensures (ap not c.if-not-is_part_name.true),
-  λ e. absurd (omega arith),
-)
+returns-then-not-is_part_name c =
+    target_none c.args.source.now c.args.target.now _ c.is_internal.ensures (ap not c.if-not-is_internal.false) _ _
+    c.relative_path-k.ensures _ c.is_part_name.ensures (ap not c.if-not-is_part_name.true)
 
 pub slice_bounds-is_reserved-end : goal.slice_bounds-is_reserved-end
 slice_bounds-is_reserved-end c =
@@ -76,12 +71,10 @@ slice_bounds-is_reserved-end-2 c =
     )))
 
 pub returns-then-is_reserved : goal.returns-then-is_reserved
-returns-then-is_reserved c = (
-  target_reserved c.args.source.now c.args.target.now _ c.is_internal.ensures (ap not c.if-not-is_internal.false)
-      _ _ c.relative_path-k.ensures _ c.is_part_name.ensures (ap not c.if-not-is_part_name.false) _
-      c.is_reserved.ensures c.if-is_reserved.true,
-  λ e. absurd (omega arith),
-)
+returns-then-is_reserved c =
+    target_reserved c.args.source.now c.args.target.now _ c.is_internal.ensures (ap not c.if-not-is_internal.false)
+    _ _ c.relative_path-k.ensures _ c.is_part_name.ensures (ap not c.if-not-is_part_name.false) _
+    c.is_reserved.ensures c.if-is_reserved.true
 
 pub returns : goal.returns
 returns c =

@@ -2,33 +2,36 @@ use mathlib.Core.Path.{refl, sym, ◌∙◌}
 use Rattle.model.specs.Calls.{Changes, DropDefault}
 use Rattle.model.proofs.Refusals.{first_one}
 use Rattle.contract.specs.Rows.{second, default_rows}
+use Rattle.output.proofs.Answering.{refused_on}
 use Rattle.contract.proofs.Opening.{turned_away_lem, let_in}
 use Rattle.contract.proofs.RowKinds.{default_rows_lem}
 use Rattle.contract.proofs.SetCalls.{drop_refused, drop_ran}
 use Rattle.types.proofs.TypeCalls.{extension_fits, dropping_default}
 use Rattle.types.proofs.calls.drop_default.Goals as goal
 
-pub returns-then-k-ne0 : goal.returns-then-k-ne0
-returns-then-k-ne0 c =
+pub returns-in_err-check_package : goal.returns-in_err-check_package
+returns-in_err-check_package c =
     let args = c.args in
-    turned_away_lem _ (Changes (DropDefault args.extension.now)) _ refl c.opened-k.ensures c.if-k-ne0.true
+    rw (refused_on _ _ c.from_residual.ensures.1)
+    (turned_away_lem _ (Changes (DropDefault args.extension.now)) _ refl c.in_err-check_package.ensures)
 
-pub returns-then-k-ne0-2 : goal.returns-then-k-ne0-2
-returns-then-k-ne0-2 c =
+pub returns-in_err-check_extension : goal.returns-in_err-check_extension
+returns-in_err-check_extension c =
     let args = c.args in
-    drop_refused default_rows default_rows_lem _ (let_in _ _ c.opened-k.ensures c.if-k-ne0.false) _ _ _ _
-    (dropping_default args.extension.now) (c.extension_refusal-k.ensures ∙ sym (first_one _)) c.if-k-ne0-2.true
+    rw (refused_on _ _ c.from_residual-in_err-check_extension.ensures.1)
+    (drop_refused default_rows default_rows_lem _ (let_in _ c.in_ok-check_package.ensures) _ _ _
+    (dropping_default args.extension.now) _ (c.in_err-check_extension.ensures ∙ sym (first_one _)))
 
 pub drop_row-requires : goal.drop_row-requires
 drop_row-requires c = (
-  (let_in _ _ c.opened-k.ensures c.if-k-ne0.false).shape,
-  (extension_fits _ (sym c.extension_refusal-k.ensures ∙ c.if-k-ne0-2.false)).1,
+  (let_in _ c.in_ok-check_package.ensures).shape,
+  (extension_fits _ (sym c.in_ok-check_extension.ensures)).1,
 )
 
 pub returns : goal.returns
 unfolding second
 returns c =
     let args = c.args in
-    drop_ran default_rows default_rows_lem _ (let_in _ _ c.opened-k.ensures c.if-k-ne0.false) _ _ _ _
-    (dropping_default args.extension.now) (c.extension_refusal-k.ensures ∙ sym (first_one _)) c.if-k-ne0-2.false _ _
+    drop_ran default_rows default_rows_lem _ (let_in _ c.in_ok-check_package.ensures) _ _ _
+    (dropping_default args.extension.now) (c.in_ok-check_extension.ensures ∙ sym (first_one _)) _ _
     c.drop_row.auto.pkg c.drop_row.ensures
