@@ -153,3 +153,38 @@ fn entries_by_position() {
         }
     }
 }
+
+/// The length of a name and its content in `row_of_no_bytes`.
+const NAME: usize = 2;
+const CONTENT: usize = 10;
+
+/// Gives a row the place of the next one, and no bytes.
+fn empty_row(buffer: &mut [u8], row: usize) {
+    let [slot, next] = [row, row + 1].map(|row| 64 + 24 * row);
+    buffer.copy_within(next..next + 4, slot);
+    buffer[slot + 4..slot + 20].fill(0);
+}
+
+/// A row of no bytes is none that a call makes. Where the rows are gathered
+/// one by one, its slot is told where it lies now, and the gathering ends; the
+/// next one then finds the rows in order, and goes through.
+#[test]
+fn row_of_no_bytes() {
+    let mut buffer = vec![0; 32_768 + 250];
+    let package = Package::start(&mut buffer, 250).expect("a package");
+    for letter in b'a'..=b'q' {
+        package.put_item([b'/', letter], [letter; CONTENT]).expect("room");
+    }
+    package.drop_item("/a").expect("held");
+    empty_row(&mut buffer, 14);
+    let used = 15 * (NAME + CONTENT);
+    buffer[16..18].copy_from_slice(&[used as u8, 0]);
+
+    let package = Package::open_mut(&mut buffer);
+    for _ in 0..2 {
+        assert_eq!(package.put_item("/z", [b'z'; 48]), Ok(()));
+    }
+    assert_eq!(package.find_item("/z"), Ok(48));
+    let totals = package.totals().expect("a package");
+    assert_eq!([totals.items, totals.parts, totals.charge], [17, 17, 230]);
+}

@@ -51,9 +51,10 @@ pub record Settled (b m : List ℕ) (r c e k : ℕ) : Type 0 where
   pub moved : off_of (slot_of b r) + size_of (slot_of b r) ≤ e
       → (k ≡ size_of (slot_of b r)) × (m ≡ splice (splice b (heap_start + c) (part (heap_start + off_of (slot_of b r)) k b)) (slot_at r) (le4 c))
 
--- row r has no bytes, or they do not lie before e
-pub record Unsettled (b : List ℕ) (r e : ℕ) : Type 0 where
+-- row r has no bytes, or they do not lie before e; in m it is settled as a row of none
+pub record Unsettled (b m : List ℕ) (r c e : ℕ) : Type 0 where
   pub is : (size_of (slot_of b r) ≡ 0) ⊎ (e < off_of (slot_of b r) + size_of (slot_of b r))
+  pub settled : Settled b m r c e 0
 
 -- b with the q bytes at a in the heap moved down to end at c
 unfoldable pub carried : List ℕ → ℕ → ℕ → ℕ → List ℕ

@@ -51,18 +51,21 @@ pub(crate) fn end_without(n: usize, e: usize, o: usize, k: usize) -> usize
     e
 }
 
-// Moves the bytes of row r down to c, if it has some and they lie before e; tells how many.
+// Moves the bytes of row r down to c, if they lie before e; tells how many, if it has some. The slot of a row of none is moved, too: a foreign buffer may have one.
 fn settle(pkg: &mut [u8], r: usize, c: usize, e: usize) -> Option<usize>
     requires { (r < slot_count) × (c ≤ e) × (e + heap_start ≤ length pkg.old) × (e < 2 ^ 32) × (c ≤ off_of (slot_of pkg.old r)) }
-    ensures { MatchOption result (Unsettled pkg.old r e) (λ k. (0 < k) × Settled pkg.old pkg.new r c e k) }
+    ensures { MatchOption result (Unsettled pkg.old pkg.new r c e) (λ k. (0 < k) × Settled pkg.old pkg.new r c e k) }
 {
     let o = offset(pkg, r);
     let k = size(pkg, r);
-    if (k == 0) | (e < o + k) {
+    if e < o + k {
         return None;
     }
     shift(pkg, HEAP_START + o, HEAP_START + c, k);
     put4(pkg, HEADER_SIZE + SLOT_SIZE * r, c);
+    if k == 0 {
+        return None;
+    }
     Some(k)
 }
 

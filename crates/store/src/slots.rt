@@ -71,6 +71,9 @@ pub(crate) fn lowest(pkg: &[u8], n: usize, c: usize) -> Option<usize>
     let mut least: usize = 0x100000000;
     for i in 0..n {
         let o = offset(pkg, i);
+        if o == c {
+            return Some(i);
+        }
         if (c <= o) & (o < least) {
             r = Some(i);
             least = o;
