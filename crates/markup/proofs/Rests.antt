@@ -6,13 +6,14 @@ use mathlib.Core.Path.{◌≡◌, refl, sym, ap, ◌∙◌, subst}
 use mathlib.Core.Bool.{Bool, true, false, false≢true}
 use mathlib.Core.List.{List}
 use lib.Dec.{leb, eqb}
-use lib.ListN.{length, get_or, drop, length-drop, get_or-eq_default}
-use lib.Seq.{drop-drop}
+use lib.ListN.{length, get_or, drop, length-drop, get_or-eq_default, get_or-append}
+use lib.Seq.{drop-drop, get_or-drop}
 use borrow.Author.Tests.{eqb-true, leb-true, leb-false}
 use Rattle.std.specs.Prelude.{Ok, Err, Option as Optional, Some, IfSome}
 use Rattle.base.proofs.Lists.{get_or_rest}
 use Rattle.base.proofs.Bools.{and_left}
 use Rattle.chars.specs.Lists.{begins, first_passing, index_of}
+use Rattle.chars.proofs.Derivability.{begins_split}
 use Rattle.chars.proofs.Searches.{first_le}
 use Rattle.chars.proofs.SameTexts.{begins_short}
 use Rattle.markup.specs.Marks.{Outcome, On, less, name_first, expected}
@@ -27,6 +28,18 @@ begins_within t s e = go (leb (length t) (length s)) refl
     go : (q : Bool) → leb (length t) (length s) ≡ q → length t ≤ length s
     go true h = leb-true (length t) (length s) h
     go false h = absurd (false≢true (sym (begins_short t s (leb-false (length t) (length s) h)) ∙ e))
+
+-- where t begins, its bytes stand
+pub begins_byte : (t s : List ℕ) (k : ℕ) → k < length t → begins t s ≡ true → get_or s k 0 ≡ get_or t k 0
+begins_byte t s k h e = ap (λ (l : List ℕ). get_or l k 0) (begins_split t s e) ∙ get_or-append t (drop (length t) s) 0 k h
+
+-- a text does not stand at i where another byte stands in its second place
+pub second_differs : (t s : List ℕ) (i : ℕ) → 1 < length t → (get_or s (i + 1) 0 ≡ get_or t 1 0 → ⊥) → false ≡ begins t (drop i s)
+second_differs t s i h n = go (begins t (drop i s)) refl
+  where
+    go : (q : Bool) → begins t (drop i s) ≡ q → false ≡ begins t (drop i s)
+    go true e = absurd (n (sym (get_or-drop i s 1 0) ∙ begins_byte t (drop i s) 1 h e))
+    go false e = sym e
 
 -- a byte that is not 0 is one of s
 pub byte_within : (s : List ℕ) (i : ℕ) → (get_or s i 0 ≡ 0 → ⊥) → i < length s
