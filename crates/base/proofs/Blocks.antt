@@ -30,7 +30,7 @@ through_block l m b c s a n e f z h =
     f ∙ ap (splice l a) (within (write b c 0 n s e z (omega arith)) 0 0 n (omega arith) (omega arith) ∙ part_all n s z)
 
 -- the first i bytes of s are there, and the next k follow
-copy_more : (l m o : List ℕ) (a : ℕ) (s : List ℕ) (i k : ℕ) → a + length s ≤ length l → i + k ≤ length s
+pub copy_more : (l m o : List ℕ) (a : ℕ) (s : List ℕ) (i k : ℕ) → a + length s ≤ length l → i + k ≤ length s
     → m ≡ splice l a (take i s) → o ≡ splice m (a + i) (part i k s) → o ≡ splice l a (take (i + k) s)
 unfolding part
 copy_more l m o a s i k h q e f =
@@ -39,7 +39,7 @@ copy_more l m o a s i k h q e f =
     ∙ ap (splice l a) (sym (take-add i k s))
 
 -- the bytes of s from i on are there, and the k before them follow
-copy_more_before : (l m o : List ℕ) (a : ℕ) (s : List ℕ) (i j k : ℕ) → a + length s ≤ length l → i ≤ length s → i ≡ j + k
+pub copy_more_before : (l m o : List ℕ) (a : ℕ) (s : List ℕ) (i j k : ℕ) → a + length s ≤ length l → i ≤ length s → i ≡ j + k
     → m ≡ splice l (a + i) (drop i s) → o ≡ splice m (a + j) (part j k s) → o ≡ splice l (a + j) (drop j s)
 unfolding part
 copy_more_before l m o a s i j k h q ij e f =

@@ -56,12 +56,12 @@ module _ (s : List ℕ) (i : ℕ) (h : i < length s) where
     unlike : get_or s i 0 ≡ 60 → ⊥
     unlike z = omega (arith, e, z)
 
-    byte_entity : (n b : ℕ) → EntityIs s i n b → ByteIs s i n b
+    pub byte_entity : (n b : ℕ) → EntityIs s i n b → ByteIs s i n b
     byte_entity n b w =
         let u = unit_entity s i h unlike e n b w in
         (some_units n (λ z. omega (arith, w.0, z)) ∙ ap (λ (k : ℕ). suc (pred k)) u.1, w.2 ∙ sym tells, w.3)
 
-    byte_none : NoEntity s i → ByteIs s i 1 0
+    pub byte_none : NoEntity s i → ByteIs s i 1 0
     byte_none z = (ap (λ (k : ℕ). suc (pred k)) (sym (unit_none s i h unlike e z)), sym (entity_none (drop i s) z) ∙ sym tells, omega arith)
 
     -- an entity, or else the mark alone

@@ -51,7 +51,7 @@ module _ (p n : List ℕ) (lp : length p ≤ 255) (ln : length n ≤ 511) (k : �
   pub unfragmented_length : k ≡ length (take k p)
   unfragmented_length = sym (length-take-le k p k_le)
 
-  unfragmented_few : length (take k p) ≤ 4096
+  pub unfragmented_few : length (take k p) ≤ 4096
   unfragmented_few = omega (arith, unfragmented_length, k_le)
 
   abbrev head : List ℕ

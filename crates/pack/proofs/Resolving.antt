@@ -75,7 +75,7 @@ module _ (s : List ℕ) (x y : ℕ) (h : AuthorityAt s x y) where
             go true = zero_take (drop y s)
             go false = take_all (length (drop y s)) (drop y s) (omega arith)
 
-        part_end_le : y + m ≤ length s
+        pub part_end_le : y + m ≤ length s
         part_end_le = omega (arith, h.inside, length-drop y s, m_is, small (same (drop y s) (ascii "/")))
           where
             small : (q : Bool) → length (cond q [] (drop y s)) ≤ length (drop y s)
