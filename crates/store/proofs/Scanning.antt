@@ -9,11 +9,10 @@ use native.Mathlib.Omega.{arith}
 use lib.Dec.{ltb}
 use borrow.Author.Tests.{ltb-true, ltb-false}
 use Rattle.store.specs.Layout.{slot_of, off_of}
-use Rattle.std.specs.Prelude.{MatchOption, Option}
 
 -- what is known once i slots are scanned: least is above every offset, or that of slot r
-pub record Scanned (b : List ℕ) (c i : ℕ) (r : Option ℕ) (least : ℕ) : Type 0 where
-  pub best : MatchOption r (2 ^ 32 ≤ least) (λ x. (x < i) × (least ≡ off_of (slot_of b x)) × (c ≤ least))
+pub record Scanned (b : List ℕ) (n c i r least : ℕ) : Type 0 where
+  pub best : ((r ≡ n) × (2 ^ 32 ≤ least)) ⊎ ((r < i) × (least ≡ off_of (slot_of b r)) × (c ≤ least))
   pub none : (j : ℕ) → j < i → c ≤ off_of (slot_of b j) → (least ≤ off_of (slot_of b j)) × (least < 2 ^ 32)
 
 pub below_or_not : (j i : ℕ) → (j < i) ⊎ (i ≤ j)
