@@ -21,7 +21,7 @@ pub(crate) fn is_quote_mark(b: u8) -> bool
 }
 
 // Whether t, of two bytes at least, stands at i. Its second byte is asked first: it tells most entities apart, and five whole texts take 1.5 times as long.
-fn names(s: &[u8], i: usize, t: &[u8]) -> bool
+fn is_entity(s: &[u8], i: usize, t: &[u8]) -> bool
     requires { (i ≤ length s.now) × (1 < length t.now) }
     ensures { result ≡ beginsWith t.now (drop i s.now) }
 {
@@ -31,36 +31,37 @@ fn names(s: &[u8], i: usize, t: &[u8]) -> bool
     stands(s, i, t)
 }
 
-// The entity at index i. A test for each of the five: a table of them and a loop are no shorter.
+// The entity at index i. A test for each of the five: a table of them and a loop are no shorter. Inlined, since its answer would go by memory.
+#[inline(always)]
 pub(crate) fn entity_at(s: &[u8], i: usize) -> Option<Entity>
     requires { i ≤ length s.now }
     ensures { MatchOption result (NoEntity s.now i) (λ e. EntityIs s.now i e.length e.byte) }
 {
-    if names(s, i, b"&lt;") {
+    if is_entity(s, i, b"&lt;") {
         return Some(Entity {
             length: 4,
             byte: b'<',
         });
     }
-    if names(s, i, b"&gt;") {
+    if is_entity(s, i, b"&gt;") {
         return Some(Entity {
             length: 4,
             byte: b'>',
         });
     }
-    if names(s, i, b"&amp;") {
+    if is_entity(s, i, b"&amp;") {
         return Some(Entity {
             length: 5,
             byte: b'&',
         });
     }
-    if names(s, i, b"&apos;") {
+    if is_entity(s, i, b"&apos;") {
         return Some(Entity {
             length: 6,
             byte: b'\'',
         });
     }
-    if names(s, i, b"&quot;") {
+    if is_entity(s, i, b"&quot;") {
         return Some(Entity {
             length: 6,
             byte: b'"',
