@@ -154,8 +154,9 @@ fn entries_by_position() {
     }
 }
 
-/// The length of a name and its content in `row_of_no_bytes`.
+/// The bytes of an item's name in `row_of_no_bytes`.
 const NAME: usize = 2;
+/// The bytes of its content.
 const CONTENT: usize = 10;
 
 /// Gives a row the place of the next one, and no bytes.
@@ -165,9 +166,9 @@ fn empty_row(buffer: &mut [u8], row: usize) {
     buffer[slot + 4..slot + 20].fill(0);
 }
 
-/// A row of no bytes is none that a call makes. Where the rows are gathered
-/// one by one, its slot is told where it lies now, and the gathering ends; the
-/// next one then finds the rows in order, and goes through.
+/// No call makes a row of no bytes. Where rows are gathered one by one, its
+/// slot is told where it lies now, and the gathering ends; the next one then
+/// finds the rows in order, and goes through.
 #[test]
 fn row_of_no_bytes() {
     let mut buffer = vec![0; 32_768 + 250];

@@ -51,7 +51,7 @@ pub(crate) fn end_without(n: usize, e: usize, o: usize, k: usize) -> usize
     e
 }
 
-// Moves the bytes of row r down to c, if they lie before e; tells how many, if it has some. The slot of a row of none is moved, too: a foreign buffer may have one.
+// Moves the bytes of row r down to c, if they lie before e, and tells its slot; answers how many, if it has some. A row of a foreign buffer may have none.
 fn settle(pkg: &mut [u8], r: usize, c: usize, e: usize) -> Option<usize>
     requires { (r < slot_count) × (c ≤ e) × (e + heap_start ≤ length pkg.old) × (e < 2 ^ 32) × (c ≤ off_of (slot_of pkg.old r)) }
     ensures { MatchOption result (Unsettled pkg.old pkg.new r c e) (λ k. (0 < k) × Settled pkg.old pkg.new r c e k) }
