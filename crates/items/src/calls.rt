@@ -82,10 +82,10 @@ pub fn find_item(pkg: &[u8], name: &[u8]) -> Result<usize, Refusal>
     check_package(pkg)?;
     let wanted = asked(name)?;
     let r = item_row(&pkg[..], name, wanted.prefix, wanted.tag);
-    if r < count(pkg) {
-        return Ok(field(pkg, r, 2).len());
+    if count(pkg) <= r {
+        return Err(Refusal::NotHeld);
     }
-    Err(Refusal::NotHeld)
+    Ok(field(pkg, r, 2).len())
 }
 
 // The part of the package that holds an item's bytes; an empty part where it is refused.

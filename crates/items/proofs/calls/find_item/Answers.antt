@@ -22,12 +22,12 @@ item_row-r-requires c =
       n_value = (named.0, named.1);
     }
 
-pub returns-then-r-count : goal.returns-then-r-count
-returns-then-r-count c =
-    find_found _ (let_in _ c.in_ok-check_package.ensures) _ c.in_ok-wanted.ensures.2 _ _
-    c.item_row-r.ensures c.count.ensures.0 c.if-r-count.true _ c.field.ensures.2
+pub returns-then-count-r : goal.returns-then-count-r
+returns-then-count-r c =
+    find_missing _ (let_in _ c.in_ok-check_package.ensures) _ c.in_ok-wanted.ensures.2 _ _
+    c.item_row-r.ensures c.count.ensures.0 c.if-count-r.true
 
 pub returns : goal.returns
 returns c =
-    find_missing _ (let_in _ c.in_ok-check_package.ensures) _ c.in_ok-wanted.ensures.2 _ _
-    c.item_row-r.ensures c.count.ensures.0 c.if-r-count.false
+    find_found _ (let_in _ c.in_ok-check_package.ensures) _ c.in_ok-wanted.ensures.2 _ _
+    c.item_row-r.ensures c.count.ensures.0 c.if-count-r.false _ c.field.ensures.2
